@@ -16,7 +16,7 @@ use Rattle.command_line.specs.declared.asked.Request.TheVariants.{Format, Run, S
 use Rattle.command_line.specs.Ends.{fault_status}
 use Rattle.command_line.specs.declared.end.End.TheVariants.{Words, Chip, OutOfMemory, Script, Output, TooLong}
 use Rattle.ipl_cli.specs.Ending.{Ending, status_at}
-use Rattle.ipl_cli.specs.Top.{RestsWithNumbersLeft, StrayCause, OpenedCause, FormatCause, AnewCause, FormattedCause, ChipCause, IsTooLong, EndCause, StrayCause, SpentCause, IsMetLater, IsUnfit, IsSilent, IsCalm, IsTold, Suffices, EndsInTime}
+use Rattle.ipl_cli.specs.Top.{RestsWithNumbersLeft, HasRoomFor, StrayCause, OpenedCause, FormatCause, AnewCause, FormattedCause, ChipCause, IsTooLong, EndCause, StrayCause, SpentCause, IsMetLater, IsUnfit, IsSilent, IsCalm, IsTold, Suffices, EndsInTime}
 use Rattle.ipl_cli.proofs.StartLemmas.{opened_excused}
 use Rattle.ipl_cli.proofs.CheckLemmas.{checked_never}
 use Rattle.ipl_cli.proofs.RecordLemmas.{steady_start}
@@ -63,6 +63,7 @@ module _ (old new : Told) (consistent : IsConsistent old) (calm : IsCalm old new
   format_ends spares fits (image.Chip (WornOut n)) c = refl
   format_ends spares fits image.Spent c = absurd c
   format_ends spares fits (image.NoSpare n) c = absurd c
+  format_ends spares fits image.TooManyNumbers c = absurd c
 
   anew_never : IsTold old → ¬ AnewCause old
   anew_never told anew = anew (starts_at told.contents)
@@ -83,10 +84,11 @@ module _ (old new : Told) (consistent : IsConsistent old) (calm : IsCalm old new
   formatted_ends told (image.Chip (WornOut n)) c = refl
   formatted_ends told image.Spent c = absurd (anew_never told c)
   formatted_ends told (image.NoSpare n) c = absurd (anew_never told c)
+  formatted_ends told image.TooManyNumbers c = absurd (anew_never told c)
 
-  opened_ends : RestsWithNumbersLeft old → (e : ImageFault) → OpenedCause e old new
-      → fault_status e ≡ 10
-  opened_ends sound e c = elim (opened_excused old sound e new c) [
+  opened_ends : (numbers : ℕ) → RestsWithNumbersLeft old → HasRoomFor numbers old → (e : ImageFault)
+      → OpenedCause numbers e old new → fault_status e ≡ 10
+  opened_ends numbers sound fits e c = elim (opened_excused old sound numbers fits e new c) [
     | inl read ↦ absurd (calm.reads read)
     | inr other ↦ elim other [
       | inl written ↦ absurd (calm.writes written)
@@ -97,11 +99,11 @@ module _ (old new : Told) (consistent : IsConsistent old) (calm : IsCalm old new
   chip_ends : (request : Request) → Suffices request old → (e : ImageFault)
       → ChipCause request e old new → fault_status e ≡ 10
   chip_ends (Format spares) holds e c = format_ends spares holds e c
-  chip_ends (Run frames sessions true closes) holds e c = formatted_ends holds e c
-  chip_ends (Run frames sessions false closes) holds e c = opened_ends holds e c
+  chip_ends (Run frames sessions numbers true closes) holds e c = formatted_ends holds e c
+  chip_ends (Run frames sessions numbers false closes) holds e c = opened_ends numbers holds.0 holds.1 e c
   chip_ends (Serial sessions) holds e c = absurd (c.1 holds)
   chip_ends Check holds e c = absurd (checked_never old new calm holds e c)
-  chip_ends (Trial seed count frames sessions) holds e c = formatted_ends holds e c
+  chip_ends (Trial seed count frames sessions numbers) holds e c = formatted_ends holds e c
 
   never_long : EndsInTime old new → ¬ IsTooLong old new
   never_long (inl short) long = omega (arith, short, long.grew.at_least)
@@ -116,13 +118,13 @@ module _ (old new : Told) (consistent : IsConsistent old) (calm : IsCalm old new
   complete_by request holds time (Err (Chip e)) c = inr (inr (chip_ends request holds e c))
   complete_by request holds time (Err OutOfMemory) c = inr (inl refl)
   complete_by (Format spares) holds time (Err Script) c = absurd c
-  complete_by (Run frames sessions formats closes) holds time (Err Script) c = absurd (calm.script c)
+  complete_by (Run frames sessions numbers formats closes) holds time (Err Script) c = absurd (calm.script c)
   complete_by (Serial sessions) holds time (Err Script) c = absurd (calm.script c)
   complete_by Check holds time (Err Script) c = absurd c
-  complete_by (Trial seed count frames sessions) holds time (Err Script) c = absurd c
+  complete_by (Trial seed count frames sessions numbers) holds time (Err Script) c = absurd c
   complete_by request holds time (Err Output) c = absurd (calm.says c)
   complete_by (Format spares) holds time (Err TooLong) c = absurd c
-  complete_by (Run frames sessions formats closes) holds time (Err TooLong) c = absurd (never_long time c)
+  complete_by (Run frames sessions numbers formats closes) holds time (Err TooLong) c = absurd (never_long time c)
   complete_by (Serial sessions) holds time (Err TooLong) c = absurd (never_long time c)
   complete_by Check holds time (Err TooLong) c = absurd c
-  complete_by (Trial seed count frames sessions) holds time (Err TooLong) c = absurd c
+  complete_by (Trial seed count frames sessions numbers) holds time (Err TooLong) c = absurd c

@@ -127,7 +127,7 @@ module _ {sessions : ℕ} (old new : Told) (m : Legible) (script : List ℕ) (on
 
 -- who asks for both, asks that the chip is opened
 pub closed_is_opened : (asked : AskedFor) → AsksClosed asked → AsksOpened asked
-closed_is_opened asked (sessions, frames, is) = (sessions, (frames, true, is))
+closed_is_opened asked (sessions, frames, numbers, is) = (sessions, (frames, numbers, true, is))
 
 module _ {sessions : ℕ} (old mid new : Told) (m : Legible) (script : List ℕ) (on : RestsOn m script old)
     (adds : AddsCleanly old.places on.history old mid) (places : mid.places ≡ old.places)

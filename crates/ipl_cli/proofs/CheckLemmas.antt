@@ -37,6 +37,7 @@ module _ (old mid : Told) (noted : Option (List ℕ)) where
   cause_noted (image.Chip (WornOut n)) c = absurd c
   cause_noted image.Spent c = absurd c
   cause_noted (image.NoSpare n) c = tt
+  cause_noted image.TooManyNumbers c = absurd c
 
   pub checked_cause : (e : ImageFault) → CheckedCause e old mid → CheckedCause e old (but_noted mid noted)
   checked_cause e c = record { cause = cause_noted e c.cause; unwell = c.unwell }
@@ -87,6 +88,7 @@ module _ (old new : Told) where
   checked_chip (image.Chip (WornOut n)) c is = absurd c.cause
   checked_chip image.Spent c is = absurd c.cause
   checked_chip (image.NoSpare n) c is = absurd (omega (arith, is))
+  checked_chip image.TooManyNumbers c is = absurd (omega (arith, is))
 
   pub checked_worn : (e : ImageFault) → CheckedCause e old new → fault_status e ≡ 10 → ⊥
   checked_worn image.Geometry c is = omega (arith, is)
@@ -99,6 +101,7 @@ module _ (old new : Told) where
   checked_worn (image.Chip (WornOut n)) c is = c.cause
   checked_worn image.Spent c is = c.cause
   checked_worn (image.NoSpare n) c is = omega (arith, is)
+  checked_worn image.TooManyNumbers c is = omega (arith, is)
 
   pub checked_spent : (e : ImageFault) → CheckedCause e old new → fault_status e ≡ 9 → ⊥
   checked_spent image.Geometry c is = omega (arith, is)
@@ -111,6 +114,7 @@ module _ (old new : Told) where
   checked_spent (image.Chip (WornOut n)) c is = c.cause
   checked_spent image.Spent c is = c.cause
   checked_spent (image.NoSpare n) c is = omega (arith, is)
+  checked_spent image.TooManyNumbers c is = omega (arith, is)
 
   -- at 4 what the chip held stands for no records
   pub checked_stray : (e : ImageFault) → CheckedCause e old new → fault_status e ≡ 4 → IsStray old
@@ -134,6 +138,7 @@ module _ (old new : Told) (calm : IsCalm old new) (holds : (m : Map) × HoldsRec
   checked_never (image.Chip (WornOut n)) c = c.cause
   checked_never image.Spent c = c.cause
   checked_never (image.NoSpare n) c = unread (image.NoSpare n) (λ is. cc) c
+  checked_never image.TooManyNumbers c = c.cause
 
 -- ---- what a check did
 

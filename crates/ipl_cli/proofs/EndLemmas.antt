@@ -617,9 +617,9 @@ module _ {marks : Bool} (old mid : Told) (store : ScriptStore) (s : StartsOpened
         s.tries.accounts.counts.places (run known)) h script steady left m.map rests besides)
 
 -- an opening that fails leaves the records
-pub unopened_runs : {sessions : ℕ} {marks : Bool} (old new : Told) (end : End) → (n : IsNotOpened marks end old new)
+pub unopened_runs : {sessions : ℕ} {marks : Bool} (numbers : ℕ) (old new : Told) (end : End) → (n : IsNotOpened marks numbers end old new)
     → RunsFrom sessions marks old new (Err (Chip n.fault))
-unopened_runs {sessions} {marks} old new end n = λ h script steady left m rests apart besides.
+unopened_runs {sessions} {marks} numbers old new end n = λ h script steady left m rests apart besides.
     let (took, takes, did) = n.tries.steps m h steady rests in
     none_failed (known_of m apart) marks old.places (limits_of sessions (units_at (now h) old.places)) m.map script h did.added did.does.silent
     (moments_as_said old.places m h did.added rests did.each_moment)

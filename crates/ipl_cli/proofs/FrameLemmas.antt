@@ -10,12 +10,13 @@ use Rattle.ipl_cli.proofs.StatusLemmas.{done_at_zero}
 
 module _ (old mid new : Told) (only : new ≡ but_noted mid new.beside.noted) where
   with_noted : (Starts : Told → ScriptStore → Told → Type 0)
-      (Does : ScriptStore → Told → ScriptStore → Told → Type 0) (frames sessions : ℕ)
-      → DoesWith Starts Does frames sessions old mid → DoesWith Starts Does frames sessions old new
-  with_noted Starts Does frames sessions d = record {
+      (Does : ScriptStore → Told → ScriptStore → Told → Type 0) (frames sessions numbers : ℕ)
+      → DoesWith Starts Does frames sessions numbers old mid → DoesWith Starts Does frames sessions numbers old new
+  with_noted Starts Does frames sessions numbers d = record {
     store = d.store;
     frames_are = d.frames_are;
     sessions_are = d.sessions_are;
+    numbers_are = d.numbers_are;
     started = d.started;
     starts = d.starts;
     then = d.then;
@@ -27,11 +28,11 @@ module _ (old mid new : Told) (only : new ≡ but_noted mid new.beside.noted) wh
   pub asked_noted : (asked : AskedFor) → DoesAsAsked asked old mid → DoesAsAsked asked old new
   asked_noted None d = tt
   asked_noted (Some (Format spares)) d = tt
-  asked_noted (Some (Run frames sessions true closes)) d = with_noted _ _ frames sessions d
-  asked_noted (Some (Run frames sessions false closes)) d = with_noted _ _ frames sessions d
+  asked_noted (Some (Run frames sessions numbers true closes)) d = with_noted _ _ frames sessions numbers d
+  asked_noted (Some (Run frames sessions numbers false closes)) d = with_noted _ _ frames sessions numbers d
   asked_noted (Some (Serial sessions)) d = tt
   asked_noted (Some Check) d = tt
-  asked_noted (Some (Trial seed count frames sessions)) d = with_noted _ _ frames sessions d
+  asked_noted (Some (Trial seed count frames sessions numbers)) d = with_noted _ _ frames sessions numbers d
 
   ends_noted : EndsClosed old mid → EndsClosed old new
   ends_noted ends = record {
@@ -60,8 +61,8 @@ module _ (old mid new : Told) (only : new ≡ but_noted mid new.beside.noted) wh
   closed_noted : (asked : AskedFor) → ClosesAsAsked asked old mid → ClosesAsAsked asked old new
   closed_noted None d = tt
   closed_noted (Some (Format spares)) d = tt
-  closed_noted (Some (Run frames sessions true closes)) d = λ is. ends_noted (d is)
-  closed_noted (Some (Run frames sessions false closes)) d = λ is.
+  closed_noted (Some (Run frames sessions numbers true closes)) d = λ is. ends_noted (d is)
+  closed_noted (Some (Run frames sessions numbers false closes)) d = λ is.
       let closes = d is in record {
         ends = ends_noted closes.ends;
         marked = marks_noted closes.marked;
@@ -69,7 +70,7 @@ module _ (old mid new : Told) (only : new ≡ but_noted mid new.beside.noted) wh
       }
   closed_noted (Some (Serial sessions)) d = tt
   closed_noted (Some Check) d = tt
-  closed_noted (Some (Trial seed count frames sessions)) d = tt
+  closed_noted (Some (Trial seed count frames sessions numbers)) d = tt
 
 -- at 0 all was done
 pub done_as_asked : (asked : AskedFor) (ending : Ending) (old mid new : Told) (status : ℕ)

@@ -136,7 +136,7 @@ unstarted_adds end old new (inr (inl did)) =
       history = stops.formats.history;
       lawful = stops.formats.lawful;
     }) stops.noted
-unstarted_adds end old new (inr (inr (formatted, formats, did))) =
+unstarted_adds end old new (inr (inr (formatted, formats, numbers, did))) =
     adds_then old formatted new
     (adds_format {T = Unit {0}} old.places (units_on old.places) old (Ok tt) formatted
     formats.formats)
@@ -223,8 +223,8 @@ module _ (old new : Told) (result : Result (Unit {0}) ImageFault) (t : Tables) (
   }
 
 -- it wasn't opened
-pub unopened_adds : (end : End) (old new : Told) → IsNotOpened true end old new → AddsLawfulByMark old new
-unopened_adds end old new did = opening_adds old new (Err did.fault) did.tables did.tries
+pub unopened_adds : (numbers : ℕ) (end : End) (old new : Told) → IsNotOpened true numbers end old new → AddsLawfulByMark old new
+unopened_adds numbers end old new did = opening_adds old new (Err did.fault) did.tables did.tries
 
 -- a run
 pub opened_adds : (old mid new : Told) (before then : ScriptStore) (done : Bool)
@@ -251,18 +251,18 @@ opened_adds old mid new before then done opened run =
 pub nothing_as_asked : (asked : AskedFor) (t : Told) → AddsAsAsked asked t t
 nothing_as_asked None t = adds_nothing t t refl
 nothing_as_asked (Some (Format spares)) t = adds_nothing t t refl
-nothing_as_asked (Some (Run frames sessions true closes)) t = adds_nothing t t refl
-nothing_as_asked (Some (Run frames sessions false closes)) t = by_no_mark t t (adds_nothing t t refl)
+nothing_as_asked (Some (Run frames sessions numbers true closes)) t = adds_nothing t t refl
+nothing_as_asked (Some (Run frames sessions numbers false closes)) t = by_no_mark t t (adds_nothing t t refl)
 nothing_as_asked (Some (Serial sessions)) t = adds_nothing t t refl
 nothing_as_asked (Some Check) t = adds_nothing t t refl
-nothing_as_asked (Some (Trial seed count frames sessions)) t = adds_nothing t t refl
+nothing_as_asked (Some (Trial seed count frames sessions numbers)) t = adds_nothing t t refl
 
 pub noted_as_asked : (asked : AskedFor) (old mid new : Told) → AddsAsAsked asked old mid
     → new ≡ but_noted mid new.beside.noted → AddsAsAsked asked old new
 noted_as_asked None old mid new did only = adds_noted old mid new did only
 noted_as_asked (Some (Format spares)) old mid new did only = adds_noted old mid new did only
-noted_as_asked (Some (Run frames sessions true closes)) old mid new did only = adds_noted old mid new did only
-noted_as_asked (Some (Run frames sessions false closes)) old mid new did only = by_mark_noted old mid new did only
+noted_as_asked (Some (Run frames sessions numbers true closes)) old mid new did only = adds_noted old mid new did only
+noted_as_asked (Some (Run frames sessions numbers false closes)) old mid new did only = by_mark_noted old mid new did only
 noted_as_asked (Some (Serial sessions)) old mid new did only = adds_noted old mid new did only
 noted_as_asked (Some Check) old mid new did only = adds_noted old mid new did only
-noted_as_asked (Some (Trial seed count frames sessions)) old mid new did only = adds_noted old mid new did only
+noted_as_asked (Some (Trial seed count frames sessions numbers)) old mid new did only = adds_noted old mid new did only

@@ -36,6 +36,7 @@ module _ (old mid : Told) (noted : Option (List ℕ)) where
       record { one = c.one; rose = c.rose; found = c.found }
   format_cause spares image.Spent c = c
   format_cause spares (image.NoSpare n) c = c
+  format_cause spares image.TooManyNumbers c = absurd c
 
   formatted_cause : (e : ImageFault) → FormattedCause e old mid → FormattedCause e old then
   formatted_cause image.Geometry c = c
@@ -49,41 +50,43 @@ module _ (old mid : Told) (noted : Option (List ℕ)) where
       record { count = c.count; exact = c.exact; rose = c.rose; found = c.found }
   formatted_cause image.Spent c = c
   formatted_cause (image.NoSpare n) c = c
+  formatted_cause image.TooManyNumbers c = c
 
-  opened_cause : (e : ImageFault) → OpenedCause e old mid → OpenedCause e old then
-  opened_cause image.Geometry c = c
-  opened_cause image.NotFormatted c = c
-  opened_cause (image.Missing u) c = c
-  opened_cause (image.Chip ReadFault) c = c
-  opened_cause (image.Chip Stopped) c = c
-  opened_cause (image.Chip (Damaged p s stored computed)) c = c
-  opened_cause (image.Chip (Malformed p s)) c = c
-  opened_cause (image.Chip (WornOut n)) c =
+  opened_cause : (numbers : ℕ) (e : ImageFault) → OpenedCause numbers e old mid → OpenedCause numbers e old then
+  opened_cause numbers image.Geometry c = c
+  opened_cause numbers image.NotFormatted c = c
+  opened_cause numbers (image.Missing u) c = c
+  opened_cause numbers (image.Chip ReadFault) c = c
+  opened_cause numbers (image.Chip Stopped) c = c
+  opened_cause numbers (image.Chip (Damaged p s stored computed)) c = c
+  opened_cause numbers (image.Chip (Malformed p s)) c = c
+  opened_cause numbers (image.Chip (WornOut n)) c =
       record { count = c.count; exact = c.exact; rose = c.rose; wears = c.wears }
-  opened_cause image.Spent c = c
-  opened_cause (image.NoSpare n) c = c
+  opened_cause numbers image.Spent c = c
+  opened_cause numbers (image.NoSpare n) c = c
+  opened_cause numbers image.TooManyNumbers c = c
 
   request_cause : (request : Request) (end : End) → RequestCause request end old mid
       → RequestCause request end old then
   request_cause request Words c = c
   request_cause (Format spares) (Chip e) c = format_cause spares e c
-  request_cause (Run frames sessions true closes) (Chip e) c = formatted_cause e c
-  request_cause (Run frames sessions false closes) (Chip e) c = opened_cause e c
+  request_cause (Run frames sessions numbers true closes) (Chip e) c = formatted_cause e c
+  request_cause (Run frames sessions numbers false closes) (Chip e) c = opened_cause numbers e c
   request_cause (Serial sessions) (Chip e) c = c
   request_cause Check (Chip e) c = checked_cause old mid noted e c
-  request_cause (Trial seed count frames sessions) (Chip e) c = formatted_cause e c
+  request_cause (Trial seed count frames sessions numbers) (Chip e) c = formatted_cause e c
   request_cause request OutOfMemory c = c
   request_cause (Format spares) Script c = c
-  request_cause (Run frames sessions formats closes) Script c = c
+  request_cause (Run frames sessions numbers formats closes) Script c = c
   request_cause (Serial sessions) Script c = c
   request_cause Check Script c = c
-  request_cause (Trial seed count frames sessions) Script c = c
+  request_cause (Trial seed count frames sessions numbers) Script c = c
   request_cause request Output c = c
   request_cause (Format spares) TooLong c = c
-  request_cause (Run frames sessions formats closes) TooLong c = record { grew = c.grew; told = c.told }
+  request_cause (Run frames sessions numbers formats closes) TooLong c = record { grew = c.grew; told = c.told }
   request_cause (Serial sessions) TooLong c = record { grew = c.grew; told = c.told }
   request_cause Check TooLong c = c
-  request_cause (Trial seed count frames sessions) TooLong c = c
+  request_cause (Trial seed count frames sessions numbers) TooLong c = c
 
   end_cause : (asked : AskedFor) (ending : Ending) → EndCause asked ending old mid
       → EndCause asked ending old then
@@ -206,6 +209,7 @@ module _ (old mid : Told) (noted : Option (List ℕ)) where
   format_left spares (Err (Chip (image.Chip e))) l = stopped_noted l
   format_left spares (Err (Chip image.Spent)) l = stopped_noted l
   format_left spares (Err (Chip (image.NoSpare n))) l = stopped_noted l
+  format_left spares (Err (Chip image.TooManyNumbers)) l = stopped_noted l
   format_left spares (Err OutOfMemory) l = untouched_noted l
   format_left spares (Err Script) l = l
   format_left spares (Err Output) l = lays_out_noted spares l
@@ -275,11 +279,11 @@ module _ (old mid : Told) (noted : Option (List ℕ)) where
       → EndLeaves asked ending old then
   end_left None ending l = untouched_noted l
   end_left (Some (Format spares)) ending l = format_left spares ending l
-  end_left (Some (Run frames sessions true closes)) ending l = formatted_left sessions ending l
-  end_left (Some (Run frames sessions false closes)) ending l = opened_left sessions ending l
+  end_left (Some (Run frames sessions numbers true closes)) ending l = formatted_left sessions ending l
+  end_left (Some (Run frames sessions numbers false closes)) ending l = opened_left sessions ending l
   end_left (Some (Serial sessions)) ending l = serial_left old mid noted sessions ending l
   end_left (Some Check) ending l = check_left old mid noted ending l
-  end_left (Some (Trial seed count frames sessions)) ending l = trial_left sessions seed count ending l
+  end_left (Some (Trial seed count frames sessions numbers)) ending l = trial_left sessions seed count ending l
 
 -- all that is to be known of the end
 pub ends : (asked : AskedFor) (ending : Ending) (old mid new : Told) (status : ℕ)

@@ -1,5 +1,5 @@
 -- How the program starts a run, and why it doesn't.
-use Rattle.std.proofs.Common.{◌≡◌, ◌⊎◌, ◌≤◌, ◌<◌, ◌+◌, ◌-◌, ◌^◌, ℕ, Bool, true, false, length, Some, None, Result, Ok, Err, inl, inr, refl, sym, ◌∙◌, ap, subst, arith}
+use Rattle.std.proofs.Common.{◌≡◌, ◌≢◌, [], ◌⊎◌, ◌≤◌, ◌<◌, ◌+◌, ◌-◌, ◌^◌, ℕ, Bool, true, false, length, Some, None, Result, Ok, Err, inl, inr, refl, sym, ◌∙◌, ap, subst, arith}
 use Rattle.std.specs.Prelude.{◌&&◌, nat_le, OnOk, IfErr, IsErrOf}
 use Rattle.std.proofs.lemmas.Bool.{cases_Bool, cases_eq, and_parts}
 use Rattle.std.proofs.lemmas.Bool.Decides.{nat_tests}
@@ -39,12 +39,14 @@ use Rattle.restart.proofs.CompleteLemmas.{completes_whole}
 use Rattle.restart.specs.Events.{format_events}
 use Rattle.restart.specs.Fresh.{IsFresh, Formats, TellsFresh}
 use Rattle.restart.proofs.LookLemmas.{reads_none}
+use Rattle.restart.specs.Looks.{AreTooMany, numbers_in}
+use Rattle.ipl_store.proofs.FitLemmas.{none_rise, all_numbers}
 use Rattle.store_trait.specs.Keeping.{SaysFailedCall, SCRIPT_DRAWS, WORK_DRAWS, FOUND_NUMBER}
 use Rattle.store_trait.specs.declared.fault.Fault.{Fault}
 use Rattle.store_trait.specs.declared.fault.Fault.TheVariants as fault
 use Rattle.place_taking.proofs.SpendingLemmas.{or_right}
 use Rattle.selective_merge.specs.Homes.{WearCause}
-use Rattle.restart.specs.Recovers.{FailsByCallAlone, OpeningCause, tells_wear}
+use Rattle.restart.specs.Recovers.{FailsApart, OpeningCause, tells_wear}
 use Rattle.restart.proofs.ReadyLemmas.{layouts_say}
 use Rattle.store_laws.specs.Keeps.{KnownPages, all_pages, IsWornCount, FaultTells, StoreCause}
 use Rattle.script_run.specs.declared.fault.Stop.{Stop}
@@ -63,7 +65,7 @@ use Rattle.command_line.specs.declared.end.End.{End}
 use Rattle.command_line.specs.declared.end.End.TheVariants.{Words, Chip, OutOfMemory, Script, Output, TooLong}
 use Rattle.command_line.specs.declared.asked.Request.TheVariants.{Run}
 use Rattle.ipl_cli.specs.Ending.{Ending, StopsEarly, StopRose, format_end}
-use Rattle.ipl_cli.specs.Top.{IsLaidWell, RestsWithNumbersLeft, IsMetLater, LaidCause, UsedUpCause, RestsOnSome, IsMetAgain, IsAtFault, StrayCause, OpenedCause, WornOutCause, AnewCause, FormattedCause, FindsWorn, IsTooLong, RequestCause, EndCause, RunsOpened, IsRefused, OpenedRuns, FormattedLeaves, OpenedLeaves}
+use Rattle.ipl_cli.specs.Top.{IsLaidWell, RestsWithNumbersLeft, HasRoomFor, IsMetLater, LaidCause, UsedUpCause, RestsOnSome, IsMetAgain, IsAtFault, StrayCause, OpenedCause, WornOutCause, AnewCause, FormattedCause, FindsWorn, IsTooLong, RequestCause, EndCause, RunsOpened, IsRefused, OpenedRuns, FormattedLeaves, OpenedLeaves}
 use Rattle.ipl_cli.specs.Runs.{RunsFrom, MakesStore, StartsOpened, IsNotOpened, WasFormatted, IsNotFormatted, StartsFormatted, IsNotStarted, RunsOver, end_of, ending_of, slots_of}
 use Rattle.ipl_cli.proofs.EarlierLemmas.{reads_earlier, writes_earlier, worn_earlier, script_earlier, says_earlier, long_earlier}
 use Rattle.ipl_cli.proofs.WornLemmas.{format_finds, fresh_finds}
@@ -138,19 +140,23 @@ module _ (t : Told) (sound : RestsWithNumbersLeft t) where
   sector_never (inr later) = later.unsound sound
 
   -- and the status is that of worn places, unless a read or a write failed
-  pub opened_excused : (e : ImageFault) (new : Told) → OpenedCause e t new
+  pub opened_excused : (numbers : ℕ) → HasRoomFor numbers t → (e : ImageFault) (new : Told) → OpenedCause numbers e t new
       → Rose t.read_faults new.read_faults ⊎ Rose t.write_faults new.write_faults
       ⊎ (fault_status e ≡ 10)
-  opened_excused image.Geometry new c = absurd (laid_never image.Geometry c)
-  opened_excused image.NotFormatted new c = absurd (laid_never image.NotFormatted c)
-  opened_excused (image.Missing u) new c = absurd (laid_never (image.Missing u) c)
-  opened_excused (image.Chip ReadFault) new c = inl c
-  opened_excused (image.Chip Stopped) new c = inr (inl c)
-  opened_excused (image.Chip (Damaged p s stored computed)) new c = absurd (sector_never c.1)
-  opened_excused (image.Chip (Malformed p s)) new c = absurd (sector_never c)
-  opened_excused (image.Chip (WornOut n)) new c = inr (inr refl)
-  opened_excused image.Spent new c = absurd (used_never c)
-  opened_excused (image.NoSpare n) new c = absurd (laid_never (image.NoSpare n) c)
+  opened_excused numbers fits image.Geometry new c = absurd (laid_never image.Geometry c)
+  opened_excused numbers fits image.NotFormatted new c = absurd (laid_never image.NotFormatted c)
+  opened_excused numbers fits (image.Missing u) new c = absurd (laid_never (image.Missing u) c)
+  opened_excused numbers fits (image.Chip ReadFault) new c = inl c
+  opened_excused numbers fits (image.Chip Stopped) new c = inr (inl c)
+  opened_excused numbers fits (image.Chip (Damaged p s stored computed)) new c = absurd (sector_never c.1)
+  opened_excused numbers fits (image.Chip (Malformed p s)) new c = absurd (sector_never c)
+  opened_excused numbers fits (image.Chip (WornOut n)) new c = inr (inr refl)
+  opened_excused numbers fits image.Spent new c = absurd (used_never c)
+  opened_excused numbers fits (image.NoSpare n) new c = absurd (laid_never (image.NoSpare n) c)
+  opened_excused numbers fits image.TooManyNumbers new (inl many) =
+      let few = fits many.never _ sound_told in
+      let more = many.many _ sound_told in absurd (omega (arith, few, more))
+  opened_excused numbers fits image.TooManyNumbers new (inr again) = absurd (again.unsound sound_some)
 
 -- what was met again was met later
 pub again_is_later : (old : Told) → IsMetAgain old → IsMetLater old
@@ -158,17 +164,28 @@ again_is_later old met = record { laid = met.laid; unsound = λ sound. met.unsou
 
 -- ---- a chip that isn't opened
 
-module _ {marks : Bool} (old new : Told) (end : End) (n : IsNotOpened marks end old new) where
+module _ {marks : Bool} (numbers : ℕ) (old new : Told) (end : End) (n : IsNotOpened marks numbers end old new) where
   pub refused : IsRefused n.fault old new
   refused e has =
-      let looked = n.tries.looks has.contents has.told e has.fault in
-      (record { read = new; reads = looked.0; noted = refl }, looked.1)
+      let looked = n.tries.looks has.contents has.told e has.fault in (
+        record { read = new; reads = looked.0; noted = refl },
+        elim looked.1 [
+          | inl fault ↦ inl (inl fault)
+          | inr other ↦ elim other [
+            | inl missed ↦ inl (inr missed)
+            | inr many ↦ inr many
+          ]
+        ],
+      )
 
   -- a fault of how the chip is laid out is its first fault
-  first_cause : (f : ImageFault) → ((c : ChipFault) → f ≡ image.Chip c → ⊥) → n.fault ≡ f
+  first_cause : (f : ImageFault) → ((c : ChipFault) → f ≡ image.Chip c → ⊥) → f ≢ image.TooManyNumbers → n.fault ≡ f
       → IsAtFault old f
-  first_cause f apart is = (λ x told.
-      elim (n.tries.tells x told (λ (c, failed, call). apart c (sym is ∙ failed))) [
+  first_cause f apart fits is = (λ x told.
+      elim (n.tries.tells x told (λ excused. elim excused [
+        | inl failed ↦ apart failed.0 (sym is ∙ failed.1)
+        | inr many ↦ fits (sym is ∙ many)
+      ])) [
         | inl first ↦ first ∙ ap Some is
         | inr none ↦ absurd (apart none.1.fault (sym is ∙ none.1.is))
       ])
@@ -181,24 +198,28 @@ module _ {marks : Bool} (old new : Told) (end : End) (n : IsNotOpened marks end 
     chip_unspent : {a : ChipFault} → image.Chip a ≡ image.Spent → ⊥
     chip_unspent e = cc
 
+    chip_fits : {a : ChipFault} → image.Chip a ≡ image.TooManyNumbers → ⊥
+    chip_fits e = cc
+
     -- no call of the chip failed
-    unfailed : ¬ FailsByCallAlone n.fault
-    unfailed (d, failed, call) = other (subst IsFailedCall (chip_one (sym failed ∙ is)) call)
+    unfailed : ¬ FailsApart n.fault
+    unfailed (inl (d, failed, call)) = other (subst IsFailedCall (chip_one (sym failed ∙ is)) call)
+    unfailed (inr many) = chip_fits (sym is ∙ many)
 
     -- what stands for a map says it as the opening finds it laid out
     says : (x : Contents) → old.contents ≡ Some x → (m : Map)
         → first_fault (chart_of x) old.places ≡ None → Stands old.places (chart_of x) (whole m)
         → Says old.places (chart_of x) (layout_in (chart_of x) old.places) (whole m)
     says x told m none stands =
-        let bytes = n.tries.bytes x told (λ failed. unfailed (ReadFault, failed, tt))
-        (λ failed. unfailed (Stopped, failed, tt)) (inr none) in
+        let bytes = n.tries.bytes x told (λ failed. unfailed (inl (ReadFault, failed, tt)))
+        (λ failed. unfailed (inl (Stopped, failed, tt))) (λ many. unfailed (inr many)) (inr none) in
         layouts_say old.places (chart_of x) (layout_in (chart_of x) old.places) (whole m)
         (no_fault_is_laid (chart_of x) old.places bytes none) stands
 
     sector_cause : StrayCause old
     sector_cause = inl (λ x told m stands. elim (n.tries.tells x told unfailed) [
       | inl first ↦ chip_unspent (sym is ∙ stands_well old.places (chart_of x) m stands n.fault first)
-      | inr none ↦ unfailed (completes_whole old.places (Err n.fault) old n.tries.complete x told m none.0 (says x told m none.0 stands))
+      | inr none ↦ unfailed (completes_whole n.tables.status.most old.places (Err n.fault) old n.tries.complete x told m none.0 (says x told m none.0 stands))
     ])
 
   -- too many places are worn, by the tables that it left
@@ -220,11 +241,11 @@ module _ {marks : Bool} (old new : Told) (end : End) (n : IsNotOpened marks end 
         (opening_wears old new n.fault n.tables n.tries);
   }
 
-  unopened_by : (f : ImageFault) → n.fault ≡ f → OpeningCause n.tables.places f old new
-      → OpenedCause f old new
-  unopened_by image.Geometry is cause = inl (first_cause image.Geometry (λ c same. cc) is)
-  unopened_by image.NotFormatted is cause = inl (first_cause image.NotFormatted (λ c same. cc) is)
-  unopened_by (image.Missing u) is cause = inl (first_cause (image.Missing u) (λ c same. cc) is)
+  unopened_by : (f : ImageFault) → n.fault ≡ f → OpeningCause n.tables.status.most n.tables.places f old new
+      → OpenedCause numbers f old new
+  unopened_by image.Geometry is cause = inl (first_cause image.Geometry (λ c same. cc) (λ same. cc) is)
+  unopened_by image.NotFormatted is cause = inl (first_cause image.NotFormatted (λ c same. cc) (λ same. cc) is)
+  unopened_by (image.Missing u) is cause = inl (first_cause (image.Missing u) (λ c same. cc) (λ same. cc) is)
   unopened_by (image.Chip ReadFault) is cause = cause.read refl
   unopened_by (image.Chip Stopped) is cause = cause.stopped refl
   unopened_by (image.Chip (Damaged p s stored computed)) is cause = (
@@ -233,22 +254,24 @@ module _ {marks : Bool} (old new : Told) (end : End) (n : IsNotOpened marks end 
   )
   unopened_by (image.Chip (Malformed p s)) is cause = sector_cause (Malformed p s) (λ none. none) is
   unopened_by (image.Chip (WornOut k)) is cause = worn_by k is (cause.worn k refl)
-  unopened_by image.Spent is cause = inl (first_cause image.Spent (λ c same. cc) is)
-  unopened_by (image.NoSpare k) is cause = inl (first_cause (image.NoSpare k) (λ c same. cc) is)
+  unopened_by image.Spent is cause = inl (first_cause image.Spent (λ c same. cc) (λ same. cc) is)
+  unopened_by (image.NoSpare k) is cause = inl (first_cause (image.NoSpare k) (λ c same. cc) (λ same. cc) is)
+  unopened_by image.TooManyNumbers is cause =
+      inl (subst (λ (k : ℕ). AreTooMany k (numbers_in old.places) old) n.room (cause.many refl))
 
-  pub unopened_cause : OpenedCause n.fault old new
+  pub unopened_cause : OpenedCause numbers n.fault old new
   unopened_cause = unopened_by n.fault refl n.tries.accounts.cause
 
-  pub unopened_ends : (frames sessions : ℕ) (closes : Bool) → RequestCause (Run frames sessions false closes) end old new
-  unopened_ends frames sessions closes = subst (λ (e : End). RequestCause (Run frames sessions false closes) e old new)
+  pub unopened_ends : (frames sessions : ℕ) (closes : Bool) → RequestCause (Run frames sessions numbers false closes) end old new
+  unopened_ends frames sessions closes = subst (λ (e : End). RequestCause (Run frames sessions numbers false closes) e old new)
       (sym n.end_is) unopened_cause
 
 -- and it is left so, where its marks count
-pub unopened_left : (sessions : ℕ) (old new : Told) (end : End) → IsNotOpened true end old new → OpenedLeaves sessions (Err end) old new
-unopened_left sessions old new end n = subst (λ (e : End). OpenedLeaves sessions (Err e) old new) (sym n.end_is)
+pub unopened_left : (sessions numbers : ℕ) (old new : Told) (end : End) → IsNotOpened true numbers end old new → OpenedLeaves sessions (Err end) old new
+unopened_left sessions numbers old new end n = subst (λ (e : End). OpenedLeaves sessions (Err e) old new) (sym n.end_is)
     (record {
-      runs = runs_opened (unopened_runs old new end n);
-      refused = refused old new end n;
+      runs = runs_opened (unopened_runs numbers old new end n);
+      refused = refused numbers old new end n;
       other = λ misfit. absurd (misfit n.fits);
     })
 
@@ -333,63 +356,65 @@ module _ {marks : Bool} (old mid : Told) (store : ScriptStore) (s : StartsOpened
 
     chip_met : (c : ChipFault) → (¬ IsFailedCall c → IsMetLater old) → Tells (fault.Chip c)
         → ChipWears old c new → StoreCause mid.places (fault.Chip c) mid new
-        → OpenedCause (image.Chip c) old new
-    chip_met ReadFault met tells wears cause = reads_earlier old mid new s.tries.accounts.counts cause
-    chip_met Stopped met tells wears cause = writes_earlier old mid new s.tries.accounts.counts cause
-    chip_met (Damaged p q stored computed) met tells wears cause =
+        → (numbers : ℕ) → OpenedCause numbers (image.Chip c) old new
+    chip_met ReadFault met tells wears cause numbers = reads_earlier old mid new s.tries.accounts.counts cause
+    chip_met Stopped met tells wears cause numbers = writes_earlier old mid new s.tries.accounts.counts cause
+    chip_met (Damaged p q stored computed) met tells wears cause numbers =
         (cause, inr (met (λ none. none)))
-    chip_met (Malformed p q) met tells wears cause = inr (met (λ none. none))
-    chip_met (WornOut n) met tells wears cause = worn_met n cause.0 cause.1 (tells all_pages) wears
+    chip_met (Malformed p q) met tells wears cause numbers = inr (met (λ none. none))
+    chip_met (WornOut n) met tells wears cause numbers = worn_met n cause.0 cause.1 (tells all_pages) wears
 
     image_met : (e : ImageFault) → (¬ SaysFailedCall (fault.Image e) → IsMetLater old)
         → Tells (fault.Image e) → ImageWears old e new
-        → StoreCause mid.places (fault.Image e) mid new → OpenedCause e old new
-    image_met image.Geometry met tells wears cause = inr (met_again (fault.Image image.Geometry) tells (λ spares none. none))
-    image_met image.NotFormatted met tells wears cause =
+        → StoreCause mid.places (fault.Image e) mid new → (numbers : ℕ) → OpenedCause numbers e old new
+    image_met image.Geometry met tells wears cause numbers = inr (met_again (fault.Image image.Geometry) tells (λ spares none. none))
+    image_met image.NotFormatted met tells wears cause numbers =
         inr (met_again (fault.Image image.NotFormatted) tells (λ spares none. none))
-    image_met (image.Missing u) met tells wears cause =
+    image_met (image.Missing u) met tells wears cause numbers =
         inr (met_again (fault.Image (image.Missing u)) tells (λ spares none. none))
-    image_met (image.Chip c) met tells wears cause = chip_met c met tells wears cause
-    image_met image.Spent met tells wears cause = inr (met (λ none. none))
-    image_met (image.NoSpare k) met tells wears cause =
+    image_met (image.Chip c) met tells wears cause numbers = chip_met c met tells wears cause numbers
+    image_met image.Spent met tells wears cause numbers = inr (met (λ none. none))
+    image_met (image.NoSpare k) met tells wears cause numbers =
         inr (met_again (fault.Image (image.NoSpare k)) tells (λ spares none. none))
+    image_met image.TooManyNumbers met tells wears cause numbers =
+        inr (met_again (fault.Image image.TooManyNumbers) tells (λ spares none. none))
 
     -- why the run stops
-    stop_cause : (frames sessions : ℕ) (closes : Bool) (e : Stop) → Completes e
+    stop_cause : (frames sessions numbers : ℕ) (closes : Bool) (e : Stop) → Completes e
         → StopCause (script_keeping mid.places all_pages) mid new e
         → StopWears (script_keeping mid.places all_pages) old e new
         → (e ≡ stop.Store fault.Spent → ⊥) → (e ≡ stop.TooLong → IsTooLong mid new)
-        → RequestCause (Run frames sessions false closes) (end_of e) old new
-    stop_cause frames sessions closes (stop.Store (fault.Chip c)) completes cause wears unspent long = chip_met c
-        (later (fault.Chip c) completes) (tells_so (fault.Chip c) completes) wears cause
-    stop_cause frames sessions closes (stop.Store (fault.Image e)) completes cause wears unspent long = image_met e
-        (later (fault.Image e) completes) (tells_so (fault.Image e) completes) wears cause
-    stop_cause frames sessions closes (stop.Store fault.Spent) completes cause wears unspent long =
+        → RequestCause (Run frames sessions numbers false closes) (end_of e) old new
+    stop_cause frames sessions numbers closes (stop.Store (fault.Chip c)) completes cause wears unspent long = chip_met c
+        (later (fault.Chip c) completes) (tells_so (fault.Chip c) completes) wears cause numbers
+    stop_cause frames sessions numbers closes (stop.Store (fault.Image e)) completes cause wears unspent long = image_met e
+        (later (fault.Image e) completes) (tells_so (fault.Image e) completes) wears cause numbers
+    stop_cause frames sessions numbers closes (stop.Store fault.Spent) completes cause wears unspent long =
         absurd (unspent refl)
-    stop_cause frames sessions closes stop.Script completes cause wears unspent long = script_earlier old mid new
+    stop_cause frames sessions numbers closes stop.Script completes cause wears unspent long = script_earlier old mid new
         s.tries.accounts.counts cause
-    stop_cause frames sessions closes stop.Output completes cause wears unspent long = says_earlier old mid new
+    stop_cause frames sessions numbers closes stop.Output completes cause wears unspent long = says_earlier old mid new
         s.tries.accounts.counts cause
-    stop_cause frames sessions closes stop.TooLong completes cause wears unspent long = long_earlier old mid new
+    stop_cause frames sessions numbers closes stop.TooLong completes cause wears unspent long = long_earlier old mid new
         s.tries.accounts.counts (long refl)
 
-    pub over_cause : (frames sessions : ℕ) (closes : Bool) (result : Result (Unit {0}) Stop)
+    pub over_cause : (frames sessions numbers : ℕ) (closes : Bool) (result : Result (Unit {0}) Stop)
         → ((known : KnownPages)
         → CompletesOver (script_keeping mid.places known) (SCRIPT_DRAWS + WORK_DRAWS) store mid result then new)
         → IfErr result (λ e. StopCause (script_keeping mid.places all_pages) mid new e)
         → LearnsAlong (script_keeping mid.places all_pages) store mid result then new
         → (IsErrOf result (stop.Store fault.Spent) → ⊥)
         → (IsErrOf result stop.TooLong → IsTooLong mid new)
-        → EndCause (Some (Run frames sessions false closes)) (ending_of result) old new
-    over_cause frames sessions closes (Ok u) completes cause learns unspent long = tt
-    over_cause frames sessions closes (Err e) completes cause learns unspent long = stop_cause frames sessions closes e completes
+        → EndCause (Some (Run frames sessions numbers false closes)) (ending_of result) old new
+    over_cause frames sessions numbers closes (Ok u) completes cause learns unspent long = tt
+    over_cause frames sessions numbers closes (Err e) completes cause learns unspent long = stop_cause frames sessions numbers closes e completes
         cause (learns old (opening_knows old mid store s.opens s.tries))
         (λ is. unspent (err_of is)) (λ is. long (err_of is))
 
-    pub opened_cause : (frames sessions : ℕ) (closes : Bool) (ending : Ending) → RunsOver ending store mid then new
-        → EndCause (Some (Run frames sessions false closes)) ending old new
-    opened_cause frames sessions closes ending r = subst (λ (e : Ending). EndCause (Some (Run frames sessions false closes)) e old
-        new) (sym r.ending_is) (over_cause frames sessions closes r.result r.run.completes r.run.cause r.run.learns
+    pub opened_cause : (frames sessions numbers : ℕ) (closes : Bool) (ending : Ending) → RunsOver ending store mid then new
+        → EndCause (Some (Run frames sessions numbers false closes)) ending old new
+    opened_cause frames sessions numbers closes ending r = subst (λ (e : Ending). EndCause (Some (Run frames sessions numbers false closes)) e old
+        new) (sym r.ending_is) (over_cause frames sessions numbers closes r.result r.run.completes r.run.cause r.run.learns
         r.run.unspent r.run.long)
 
   -- all that was left of the script before the opening was read
@@ -444,7 +469,7 @@ module _ (t : Told) where
     runs = subst (λ (f : ImageFault). RunsOpened sessions t t (Err (Chip f))) (sym c.1) (untouched_stops t t refl);
     refused = λ f has. (
       record { read = t; reads = reads_none t; noted = refl },
-      inl (c.1 ∙ sym (some_one (sym has.fault ∙ size_first (chart_of has.contents) t.places c.0))),
+      inl (inl (c.1 ∙ sym (some_one (sym has.fault ∙ size_first (chart_of has.contents) t.places c.0)))),
     );
     other = λ misfit. refl;
   }
@@ -453,15 +478,15 @@ module _ (t : Told) where
   closed_left sessions Output c = absurd c
   closed_left sessions TooLong c = absurd c
 
-  pub closed_cause : (frames sessions : ℕ) (closes : Bool) (end : End) → MakesStore t.places (Err end)
-      → RequestCause (Run frames sessions false closes) end t t
-  closed_cause frames sessions closes Words c = absurd c
-  closed_cause frames sessions closes (Chip e) c = subst (λ (f : ImageFault). OpenedCause f t t) (sym c.1)
+  pub closed_cause : (frames sessions numbers : ℕ) (closes : Bool) (end : End) → MakesStore t.places (Err end)
+      → RequestCause (Run frames sessions numbers false closes) end t t
+  closed_cause frames sessions numbers closes Words c = absurd c
+  closed_cause frames sessions numbers closes (Chip e) c = subst (λ (f : ImageFault). OpenedCause numbers f t t) (sym c.1)
       (inl (λ x told. size_first (chart_of x) t.places c.0))
-  closed_cause frames sessions closes OutOfMemory c = tt
-  closed_cause frames sessions closes Script c = absurd c
-  closed_cause frames sessions closes Output c = absurd c
-  closed_cause frames sessions closes TooLong c = absurd c
+  closed_cause frames sessions numbers closes OutOfMemory c = tt
+  closed_cause frames sessions numbers closes Script c = absurd c
+  closed_cause frames sessions numbers closes Output c = absurd c
+  closed_cause frames sessions numbers closes TooLong c = absurd c
 
   pub unmade_left : (sessions : ℕ) (end : End) → MakesStore t.places (Err end) → FormattedLeaves sessions (Err end) t t
   unmade_left sessions Words c = absurd c
@@ -471,15 +496,15 @@ module _ (t : Told) where
   unmade_left sessions Output c = absurd c
   unmade_left sessions TooLong c = absurd c
 
-  pub unmade_cause : (frames sessions : ℕ) (closes : Bool) (end : End) → MakesStore t.places (Err end)
-      → RequestCause (Run frames sessions true closes) end t t
-  unmade_cause frames sessions closes Words c = absurd c
-  unmade_cause frames sessions closes (Chip e) c = subst (λ (f : ImageFault). FormattedCause f t t) (sym c.1)
+  pub unmade_cause : (frames sessions numbers : ℕ) (closes : Bool) (end : End) → MakesStore t.places (Err end)
+      → RequestCause (Run frames sessions numbers true closes) end t t
+  unmade_cause frames sessions numbers closes Words c = absurd c
+  unmade_cause frames sessions numbers closes (Chip e) c = subst (λ (f : ImageFault). FormattedCause f t t) (sym c.1)
       (inl c.0)
-  unmade_cause frames sessions closes OutOfMemory c = tt
-  unmade_cause frames sessions closes Script c = absurd c
-  unmade_cause frames sessions closes Output c = absurd c
-  unmade_cause frames sessions closes TooLong c = absurd c
+  unmade_cause frames sessions numbers closes OutOfMemory c = tt
+  unmade_cause frames sessions numbers closes Script c = absurd c
+  unmade_cause frames sessions numbers closes Output c = absurd c
+  unmade_cause frames sessions numbers closes TooLong c = absurd c
 
 -- ---- a chip that is formatted first
 
@@ -504,11 +529,25 @@ fresh_number places units c fits keeps fresh = elim (greatest_is_found c places 
           omega (arith, low, fits.1, keeps.1)
     ]
 
+-- no number is committed there
+fresh_fits : (places units most : ℕ) (c : Chart) → IsFresh places units c → most < length (numbers_in places c) → ⊥
+fresh_fits places units most c fresh many =
+    let none = all_numbers places c (first_layout units) fresh.mirrors.laid [] fresh.mirrors.status.numbers none_rise in
+    omega (arith, many, ap length none)
+
 -- where all units are kept no place is spare, and one worn one is one too many
 none_spare : (places : ℕ) → 1 + spares_on places (units_on places) ≡ 1
 none_spare places = omega arith
 
 module _ (old mid : Told) (f : WasFormatted old mid) where
+  fresh_then : (h : History)
+      → IsFresh mid.places (units_on old.places) (now (adds_all (format_events old.places (units_on old.places)) h))
+  fresh_then h =
+      let did = f.formats h in
+      subst (λ (q : ℕ). IsFresh q (units_on old.places) (now (adds_all (format_events old.places (units_on old.places)) h)))
+      (sym f.counts.places) (subst (λ (s : Story). IsFresh old.places (units_on old.places) (now (adds_all s h)))
+      did.done.exact did.done.fresh)
+
   -- it is sound
   pub fresh_sound : (h : History) → IsSteady h old → RestsWithNumbersLeft mid
   fresh_sound h steady =
@@ -545,16 +584,16 @@ module _ (old mid : Told) (f : WasFormatted old mid) where
     sector_anew : StrayCause mid → AnewCause old
     sector_anew cause h steady = sector_never mid (fresh_sound h steady) cause
 
-    anew_by : (e : ImageFault) → OpenedCause e mid new → FormattedCause e old new
-    anew_by image.Geometry c = inr (laid_anew image.Geometry c)
-    anew_by image.NotFormatted c = laid_anew image.NotFormatted c
-    anew_by (image.Missing u) c = laid_anew (image.Missing u) c
-    anew_by (image.Chip ReadFault) c = reads_earlier old mid new f.counts c
-    anew_by (image.Chip Stopped) c = writes_earlier old mid new f.counts c
-    anew_by (image.Chip (Damaged p s stored computed)) c =
+    anew_by : (numbers : ℕ) (e : ImageFault) → OpenedCause numbers e mid new → FormattedCause e old new
+    anew_by numbers image.Geometry c = inr (laid_anew image.Geometry c)
+    anew_by numbers image.NotFormatted c = laid_anew image.NotFormatted c
+    anew_by numbers (image.Missing u) c = laid_anew (image.Missing u) c
+    anew_by numbers (image.Chip ReadFault) c = reads_earlier old mid new f.counts c
+    anew_by numbers (image.Chip Stopped) c = writes_earlier old mid new f.counts c
+    anew_by numbers (image.Chip (Damaged p s stored computed)) c =
         (c.0, sector_anew c.1)
-    anew_by (image.Chip (Malformed p s)) c = sector_anew c
-    anew_by (image.Chip (WornOut n)) c = record {
+    anew_by numbers (image.Chip (Malformed p s)) c = sector_anew c
+    anew_by numbers (image.Chip (WornOut n)) c = record {
       count = subst (λ (p : ℕ). IsWornCount p n) f.counts.places c.count;
       exact = λ h steady.
           let story = fresh_story old mid mid f h steady in
@@ -568,22 +607,28 @@ module _ (old mid : Told) (f : WasFormatted old mid) where
       found = fresh_finds old mid new f.fits f.counts.places
           (λ h. ((f.formats h).added, (f.formats h).history)) f.contents c.wears;
     }
-    anew_by image.Spent c = λ h steady. used_never mid (fresh_sound h steady) c
-    anew_by (image.NoSpare k) c = laid_anew (image.NoSpare k) c
+    anew_by numbers image.Spent c = λ h steady. used_never mid (fresh_sound h steady) c
+    anew_by numbers (image.NoSpare k) c = laid_anew (image.NoSpare k) c
+    anew_by numbers image.TooManyNumbers (inl many) = λ h steady.
+        fresh_fits mid.places (units_on old.places) _ (now (adds_all (format_events old.places (units_on old.places)) h))
+        (fresh_then h) (many.many _ (fresh_story old mid mid f h steady).0.holds)
+    anew_by numbers image.TooManyNumbers (inr met) = λ h steady. met.unsound (sound_some mid (fresh_sound h steady))
 
     -- why a run over it ends
-    ends_anew : (frames sessions : ℕ) (closes : Bool) (end : End) → RequestCause (Run frames sessions false closes) end mid new
-        → RequestCause (Run frames sessions true closes) end old new
-    ends_anew frames sessions closes Words c = absurd c
-    ends_anew frames sessions closes (Chip e) c = anew_by e c
-    ends_anew frames sessions closes OutOfMemory c = tt
-    ends_anew frames sessions closes Script c = script_earlier old mid new f.counts c
-    ends_anew frames sessions closes Output c = says_earlier old mid new f.counts c
-    ends_anew frames sessions closes TooLong c = long_earlier old mid new f.counts c
+    ends_anew : (frames sessions numbers asked : ℕ) (closes : Bool) (end : End)
+        → RequestCause (Run frames sessions numbers false closes) end mid new
+        → RequestCause (Run frames sessions asked true closes) end old new
+    ends_anew frames sessions numbers asked closes Words c = absurd c
+    ends_anew frames sessions numbers asked closes (Chip e) c = anew_by numbers e c
+    ends_anew frames sessions numbers asked closes OutOfMemory c = tt
+    ends_anew frames sessions numbers asked closes Script c = script_earlier old mid new f.counts c
+    ends_anew frames sessions numbers asked closes Output c = says_earlier old mid new f.counts c
+    ends_anew frames sessions numbers asked closes TooLong c = long_earlier old mid new f.counts c
 
-    pub unopened_anew : (frames sessions : ℕ) (closes : Bool) (end : End) → IsNotOpened false end mid new
-        → RequestCause (Run frames sessions true closes) end old new
-    unopened_anew frames sessions closes end n = ends_anew frames sessions closes end (unopened_ends mid new end n frames sessions closes)
+    pub unopened_anew : (frames sessions numbers asked : ℕ) (closes : Bool) (end : End) → IsNotOpened false numbers end mid new
+        → RequestCause (Run frames sessions asked true closes) end old new
+    unopened_anew frames sessions numbers asked closes end n = ends_anew frames sessions numbers asked closes end
+        (unopened_ends numbers mid new end n frames sessions closes)
 
     stops_anew : {sessions : ℕ} (e : ImageFault) → RunsFrom sessions false mid new (Err (Chip e)) → FormattedLeaves sessions (Err (Chip e)) old new
     stops_anew e runs = inr (
@@ -591,9 +636,9 @@ module _ (old mid : Told) (f : WasFormatted old mid) where
       λ h script steady left. inl (formatted_runs old mid new f runs h script steady left),
     )
 
-    pub unopened_stops : (sessions : ℕ) (end : End) → IsNotOpened false end mid new → FormattedLeaves sessions (Err end) old new
-    unopened_stops sessions end n = subst (λ (e : End). FormattedLeaves sessions (Err e) old new) (sym n.end_is)
-        (stops_anew n.fault (unopened_runs mid new end n))
+    pub unopened_stops : (sessions numbers : ℕ) (end : End) → IsNotOpened false numbers end mid new → FormattedLeaves sessions (Err end) old new
+    unopened_stops sessions numbers end n = subst (λ (e : End). FormattedLeaves sessions (Err e) old new) (sym n.end_is)
+        (stops_anew n.fault (unopened_runs numbers mid new end n))
 
     -- and what it leaves
     leaves_anew : {sessions : ℕ} (result : Result (Unit {0}) Stop) → RunsFrom sessions false mid new (ending_of result)
@@ -618,16 +663,16 @@ module _ (old mid : Told) (store : ScriptStore) (s : StartsFormatted old store m
       (opened_runs s.formatted mid store s.opened then new r.result r.run.runs)
       (read_before s.formatted mid store s.opened new r.result r.run.read))
 
-  pub cause_anew : (frames sessions : ℕ) (closes : Bool) (ending : Ending)
-      → EndCause (Some (Run frames sessions false closes)) ending s.formatted new
-      → EndCause (Some (Run frames sessions true closes)) ending old new
-  cause_anew frames sessions closes (Ok u) c = tt
-  cause_anew frames sessions closes (Err end) c = ends_anew old s.formatted s.formats new frames sessions closes end c
+  pub cause_anew : (frames sessions numbers : ℕ) (closes : Bool) (ending : Ending)
+      → EndCause (Some (Run frames sessions numbers false closes)) ending s.formatted new
+      → EndCause (Some (Run frames sessions numbers true closes)) ending old new
+  cause_anew frames sessions numbers closes (Ok u) c = tt
+  cause_anew frames sessions numbers closes (Err end) c = ends_anew old s.formatted s.formats new frames sessions numbers numbers closes end c
 
-  pub formatted_cause : (frames sessions : ℕ) (closes : Bool) (ending : Ending) → RunsOver ending store mid then new
-      → EndCause (Some (Run frames sessions true closes)) ending old new
-  formatted_cause frames sessions closes ending r = cause_anew frames sessions closes ending (opened_cause s.formatted mid store
-      s.opened then new frames sessions closes ending r)
+  pub formatted_cause : (frames sessions numbers : ℕ) (closes : Bool) (ending : Ending) → RunsOver ending store mid then new
+      → EndCause (Some (Run frames sessions numbers true closes)) ending old new
+  formatted_cause frames sessions numbers closes ending r = cause_anew frames sessions numbers closes ending (opened_cause s.formatted mid store
+      s.opened then new frames sessions numbers closes ending r)
 
 module _ (old mid : Told) (store : ScriptStore) (s : StartsFormatted old store mid) where
   pub formatted_running : IsRunning mid.places store
@@ -673,10 +718,10 @@ module _ (old new : Told) (end : End) (n : IsNotFormatted end old new) where
             StopsEarly old.places (units_on old.places) h old new (Err last)) is (n.stops h)),
       ))
 
-  pub stopped_cause : (frames sessions : ℕ) (closes : Bool) → RequestCause (Run frames sessions true closes) end old new
-  stopped_cause frames sessions closes =
+  pub stopped_cause : (frames sessions numbers : ℕ) (closes : Bool) → RequestCause (Run frames sessions numbers true closes) end old new
+  stopped_cause frames sessions numbers closes =
       let (e, is, cause) = stopped_end in
-      subst (λ (last : End). RequestCause (Run frames sessions true closes) last old new) (sym is) cause
+      subst (λ (last : End). RequestCause (Run frames sessions numbers true closes) last old new) (sym is) cause
 
 -- ---- a run that isn't started
 
@@ -685,15 +730,15 @@ module _ (old new : Told) where
   not_started_left sessions end (inl unmade) = subst (FormattedLeaves sessions (Err end) old) (sym unmade.1)
       (unmade_left old sessions end unmade.0)
   not_started_left sessions end (inr (inl stopped)) = stopped_left old new end stopped sessions
-  not_started_left sessions end (inr (inr (formatted, f, n))) = unopened_stops old formatted f new sessions end n
+  not_started_left sessions end (inr (inr (formatted, f, numbers, n))) = unopened_stops old formatted f new sessions numbers end n
 
-  pub not_started_cause : (frames sessions : ℕ) (closes : Bool) (end : End) → IsNotStarted end old new
-      → RequestCause (Run frames sessions true closes) end old new
-  not_started_cause frames sessions closes end (inl unmade) = subst (RequestCause (Run frames sessions true closes) end old)
-      (sym unmade.1) (unmade_cause old frames sessions closes end unmade.0)
-  not_started_cause frames sessions closes end (inr (inl stopped)) = stopped_cause old new end stopped frames sessions closes
-  not_started_cause frames sessions closes end (inr (inr (formatted, f, n))) = unopened_anew old formatted f new
-      frames sessions closes end n
+  pub not_started_cause : (frames sessions numbers : ℕ) (closes : Bool) (end : End) → IsNotStarted end old new
+      → RequestCause (Run frames sessions numbers true closes) end old new
+  not_started_cause frames sessions numbers closes end (inl unmade) = subst (RequestCause (Run frames sessions numbers true closes) end old)
+      (sym unmade.1) (unmade_cause old frames sessions numbers closes end unmade.0)
+  not_started_cause frames sessions numbers closes end (inr (inl stopped)) = stopped_cause old new end stopped frames sessions numbers closes
+  not_started_cause frames sessions numbers closes end (inr (inr (formatted, f, most, n))) = unopened_anew old formatted f new
+      frames sessions most numbers closes end n
 
 -- ---- as the calls have it
 

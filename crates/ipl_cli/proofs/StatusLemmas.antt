@@ -21,6 +21,7 @@ chip_status (image.Chip (Malformed p s)) = inr (inl refl)
 chip_status (image.Chip (WornOut n)) = inr (inr (inr refl))
 chip_status image.Spent = inr (inr (inl refl))
 chip_status (image.NoSpare n) = inr (inl refl)
+chip_status image.TooManyNumbers = inr (inl refl)
 
 -- no end has the status 0
 pub above_zero : (end : End) → 0 < status_of end

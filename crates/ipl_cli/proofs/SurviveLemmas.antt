@@ -192,5 +192,5 @@ module _ (old new : Told) where
 
   pub formatted_survives : IsConsistent old → (sessions : ℕ) (asked : AskedFor) (status : ℕ)
       → Ends asked old new status → AsksFormattedBy sessions asked → SurvivesAnew sessions old new
-  formatted_survives consistent sessions asked status e (frames, closes, is) = anew_by sessions consistent e.ending
+  formatted_survives consistent sessions asked status e (frames, numbers, closes, is) = anew_by sessions consistent e.ending
       (subst (λ (a : AskedFor). EndLeaves a e.ending old new) is e.leaves)

@@ -1,5 +1,5 @@
 -- What the end of the program says.
-use Rattle.std.proofs.Common.{◌≡◌, ◌≢◌, ◌⊎◌, ◌==◌, ℕ, true, false, Some, None, Result, Ok, Err, inl, inr, refl, sym, ◌∙◌, ap, subst, arith}
+use Rattle.std.proofs.Common.{◌≡◌, ◌≢◌, ◌⊎◌, ◌==◌, ℕ, Bool, true, false, Some, None, Result, Ok, Err, inl, inr, refl, sym, ◌∙◌, ap, subst, arith}
 use Rattle.chip_trait.specs.Told.{History, Told, Counts, Rose, Grew, IsConsistent}
 use Rattle.ipl_base.specs.Places.{IsGeometry, IsSpared}
 use Rattle.ipl_base.specs.declared.fault.ChipFault.TheVariants.{ReadFault, Stopped, Damaged, Malformed, WornOut}
@@ -17,11 +17,12 @@ use Rattle.command_line.specs.declared.asked.Request.{Request}
 use Rattle.command_line.specs.declared.asked.Request.TheVariants.{Format, Run, Serial, Check, Trial}
 use Rattle.command_line.specs.Ends.{status_of, fault_status}
 use Rattle.command_line.specs.declared.end.End.TheVariants.{Words, Chip, OutOfMemory, Script, Output, TooLong}
-use Rattle.ipl_cli.specs.Ending.{AskedFor, AsksOpened, AsksFormatted, AsksAnew, AtStatus, Ending, IsLeftAlone, but_noted, format_end, status_at, units_beside, AsksOpenedBy, AsksFormattedBy}
+use Rattle.ipl_cli.specs.Ending.{AskedFor, AsksOpened, AsksFormatted, AsksAnew, AtStatus, Ending, IsLeftAlone, but_noted, format_end, status_at, units_beside, AsksOpenedBy, AsksOpenedWith, AsksFormattedBy}
 use Rattle.ipl_cli.specs.Trials.{TrialLeaves}
 use Rattle.ipl_cli.specs.Checks.{CheckLeaves}
 use Rattle.ipl_cli.specs.Views.{ViewsTold, OnlyViews, OnlyHears, SerialLeaves}
-use Rattle.ipl_cli.specs.Top.{HasFault, IsStray, IsLaidWell, LaidCause, UsedUpCause, FindsWorn, WearsAsAsked, StrayCause, OpenedCause, FormatCause, AnewCause, FormattedCause, ChipCause, IsTooLong, EndCause, RunsOpened, RunsFormatted, LaysOut, OnlyLooks, EndsAtFault, FormatLeaves, FormattedLeaves, OpenedLeaves, EndLeaves, Ends, RefusesFaults, StrayCause, SpentCause, LacksUnits, EndsUnfit, UntouchedOrRuns, IsCalm, Suffices, EndsInTime}
+use Rattle.restart.specs.Looks.{AreTooMany, numbers_in}
+use Rattle.ipl_cli.specs.Top.{HasFault, IsStray, IsLaidWell, LaidCause, UsedUpCause, FindsWorn, WearsAsAsked, StrayCause, OpenedCause, FormatCause, AnewCause, FormattedCause, ChipCause, IsTooLong, EndCause, RunsOpened, RunsFormatted, LaysOut, OnlyLooks, EndsAtFault, FormatLeaves, FormattedLeaves, OpenedLeaves, EndLeaves, Ends, RefusesFaults, StrayCause, SpentCause, LacksUnits, LacksRoom, EndsUnfit, UntouchedOrRuns, IsCalm, Suffices, EndsInTime}
 use Rattle.ipl_cli.proofs.EndLemmas.{stopped_early, untouched_runs}
 use Rattle.ipl_cli.proofs.WornLemmas.{format_finds}
 use Rattle.ipl_cli.proofs.StartLemmas.{stands_well, again_is_later}
@@ -39,11 +40,11 @@ untouched old new is = subst (λ (t : Told). t ≡ but_noted old t.beside.noted)
 pub no_memory : (asked : AskedFor) (t : Told) → EndLeaves asked (Err OutOfMemory) t t
 no_memory None t = refl
 no_memory (Some (Format spares)) t = refl
-no_memory (Some (Run frames sessions true closes)) t = refl
-no_memory (Some (Run frames sessions false closes)) t = refl
+no_memory (Some (Run frames sessions numbers true closes)) t = refl
+no_memory (Some (Run frames sessions numbers false closes)) t = refl
 no_memory (Some (Serial sessions)) t = untouched_hears t t refl
 no_memory (Some Check) t = refl
-no_memory (Some (Trial seed count frames sessions)) t = refl
+no_memory (Some (Trial seed count frames sessions numbers)) t = refl
 
 abbrev failed : FormatFault → Result (Unit {0}) FormatFault
 failed fault = Err fault
@@ -97,10 +98,6 @@ module _ (old new : Told) where
   opened_by (Err Output) l = l.runs
   opened_by (Err TooLong) l = l.runs
 
-  -- a chip that has a fault was only read
-  abbrev Refuses : ImageFault → ℕ → Type 0
-  Refuses e status = OnlyLooks old new × ((status ≡ fault_status e) ⊎ (status ≡ 3) ⊎ (status ≡ 5))
-
   at_fault : (e ended : ImageFault) → EndsAtFault e ended
       → (fault_status ended ≡ fault_status e) ⊎ (fault_status ended ≡ 3) ⊎ (fault_status ended ≡ 5)
   at_fault e ended (inl same) = inl (ap fault_status same)
@@ -109,15 +106,39 @@ module _ (old new : Told) where
   laid_never : IsLaidWell old → (e : ImageFault) → HasFault old e → ⊥
   laid_never laid e has = none_is_some (sym (laid has.contents has.told) ∙ has.fault)
 
-  refuses_by : (sessions : ℕ) (ending : Ending) → OpenedLeaves sessions ending old new
-      → RefusesFaults old new (status_at ending)
-  refuses_by sessions (Ok u) l e has = absurd (laid_never l.laid e has)
-  refuses_by sessions (Err Words) l e has = absurd l
-  refuses_by sessions (Err (Chip ended)) l e has = let is = l.refused e has in (is.0, at_fault e ended is.1)
-  refuses_by sessions (Err OutOfMemory) l e has = (untouched_looks old new l, inr (inr refl))
-  refuses_by sessions (Err Script) l e has = absurd (laid_never l.laid e has)
-  refuses_by sessions (Err Output) l e has = absurd (laid_never l.laid e has)
-  refuses_by sessions (Err TooLong) l e has = absurd (laid_never l.laid e has)
+  -- a fault of which the cause is known
+  too_many : (numbers : ℕ) (e ended : ImageFault) → HasFault old e → OpenedCause numbers ended old new
+      → ended ≡ image.TooManyNumbers → AreTooMany numbers (numbers_in old.places) old
+  too_many numbers e ended has cause is = elim (subst (λ (f : ImageFault). OpenedCause numbers f old new) is cause) [
+    | inl many ↦ many
+    | inr again ↦ absurd (laid_never again.laid e has)
+  ]
+
+  refuses_at : (numbers : ℕ) (e ended : ImageFault) → HasFault old e → OpenedCause numbers ended old new
+      → EndsAtFault e ended ⊎ (ended ≡ image.TooManyNumbers)
+      → (fault_status ended ≡ fault_status e) ⊎ (fault_status ended ≡ 3) ⊎ (fault_status ended ≡ 5)
+      ⊎ ((fault_status ended ≡ 4) × AreTooMany numbers (numbers_in old.places) old)
+  refuses_at numbers e ended has cause (inl at) = elim (at_fault e ended at) [
+    | inl same ↦ inl same
+    | inr other ↦ elim other [
+      | inl read ↦ inr (inl read)
+      | inr memory ↦ inr (inr (inl memory))
+    ]
+  ]
+  refuses_at numbers e ended has cause (inr is) =
+      inr (inr (inr (ap fault_status is, too_many numbers e ended has cause is)))
+
+  refuses_by : (frames sessions numbers : ℕ) (closes : Bool) (ending : Ending)
+      → EndCause (Some (Run frames sessions numbers false closes)) ending old new → OpenedLeaves sessions ending old new
+      → RefusesFaults numbers old new (status_at ending)
+  refuses_by frames sessions numbers closes (Ok u) c l e has = absurd (laid_never l.laid e has)
+  refuses_by frames sessions numbers closes (Err Words) c l e has = absurd l
+  refuses_by frames sessions numbers closes (Err (Chip ended)) c l e has =
+      let is = l.refused e has in (is.0, refuses_at numbers e ended has c is.1)
+  refuses_by frames sessions numbers closes (Err OutOfMemory) c l e has = (untouched_looks old new l, inr (inr (inl refl)))
+  refuses_by frames sessions numbers closes (Err Script) c l e has = absurd (laid_never l.laid e has)
+  refuses_by frames sessions numbers closes (Err Output) c l e has = absurd (laid_never l.laid e has)
+  refuses_by frames sessions numbers closes (Err TooLong) c l e has = absurd (laid_never l.laid e has)
 
   abbrev Opened : Type 0
   Opened = IsLaidWell old × IsGeometry old.places
@@ -206,50 +227,55 @@ module _ (old new : Told) where
   laid_image e is (inr met) = inr (again_is_later old met)
 
   -- a status of a fault of the chip is that of an image, or a count rose, or numbers are used up
-  opened_image : (e : ImageFault) → OpenedCause e old new → fault_status e ≡ 4 → StrayCause old
-  opened_image image.Geometry c is = laid_image image.Geometry is c
-  opened_image image.NotFormatted c is = laid_image image.NotFormatted is c
-  opened_image (image.Missing u) c is = laid_image (image.Missing u) is c
-  opened_image (image.Chip ReadFault) c is = absurd (omega (arith, is))
-  opened_image (image.Chip Stopped) c is = absurd (omega (arith, is))
-  opened_image (image.Chip (Damaged p s stored computed)) c is = c.1
-  opened_image (image.Chip (Malformed p s)) c is = c
-  opened_image (image.Chip (WornOut n)) c is = absurd (omega (arith, is))
-  opened_image image.Spent c is = absurd (omega (arith, is))
-  opened_image (image.NoSpare n) c is = laid_image (image.NoSpare n) is c
+  opened_image : (numbers : ℕ) (e : ImageFault) → OpenedCause numbers e old new → fault_status e ≡ 4
+      → StrayCause old ⊎ AreTooMany numbers (numbers_in old.places) old
+  opened_image numbers image.Geometry c is = inl (laid_image image.Geometry is c)
+  opened_image numbers image.NotFormatted c is = inl (laid_image image.NotFormatted is c)
+  opened_image numbers (image.Missing u) c is = inl (laid_image (image.Missing u) is c)
+  opened_image numbers (image.Chip ReadFault) c is = absurd (omega (arith, is))
+  opened_image numbers (image.Chip Stopped) c is = absurd (omega (arith, is))
+  opened_image numbers (image.Chip (Damaged p s stored computed)) c is = inl c.1
+  opened_image numbers (image.Chip (Malformed p s)) c is = inl c
+  opened_image numbers (image.Chip (WornOut n)) c is = absurd (omega (arith, is))
+  opened_image numbers image.Spent c is = absurd (omega (arith, is))
+  opened_image numbers (image.NoSpare n) c is = inl (laid_image (image.NoSpare n) is c)
+  opened_image numbers image.TooManyNumbers (inl many) is = inr many
+  opened_image numbers image.TooManyNumbers (inr met) is = inl (inr (again_is_later old met))
 
   -- a read or a write of the chip failed
   abbrev CallFailed : Type 0
   CallFailed = Rose old.read_faults new.read_faults ⊎ Rose old.write_faults new.write_faults
 
-  opened_chip : (e : ImageFault) → OpenedCause e old new → fault_status e ≡ 3 → CallFailed
-  opened_chip image.Geometry c is = absurd (omega (arith, is))
-  opened_chip image.NotFormatted c is = absurd (omega (arith, is))
-  opened_chip (image.Missing u) c is = absurd (omega (arith, is))
-  opened_chip (image.Chip ReadFault) c is = inl c
-  opened_chip (image.Chip Stopped) c is = inr c
-  opened_chip (image.Chip (Damaged p s stored computed)) c is = absurd (omega (arith, is))
-  opened_chip (image.Chip (Malformed p s)) c is = absurd (omega (arith, is))
-  opened_chip (image.Chip (WornOut n)) c is = absurd (omega (arith, is))
-  opened_chip image.Spent c is = absurd (omega (arith, is))
-  opened_chip (image.NoSpare n) c is = absurd (omega (arith, is))
+  opened_chip : (numbers : ℕ) (e : ImageFault) → OpenedCause numbers e old new → fault_status e ≡ 3 → CallFailed
+  opened_chip numbers image.Geometry c is = absurd (omega (arith, is))
+  opened_chip numbers image.NotFormatted c is = absurd (omega (arith, is))
+  opened_chip numbers (image.Missing u) c is = absurd (omega (arith, is))
+  opened_chip numbers (image.Chip ReadFault) c is = inl c
+  opened_chip numbers (image.Chip Stopped) c is = inr c
+  opened_chip numbers (image.Chip (Damaged p s stored computed)) c is = absurd (omega (arith, is))
+  opened_chip numbers (image.Chip (Malformed p s)) c is = absurd (omega (arith, is))
+  opened_chip numbers (image.Chip (WornOut n)) c is = absurd (omega (arith, is))
+  opened_chip numbers image.Spent c is = absurd (omega (arith, is))
+  opened_chip numbers (image.NoSpare n) c is = absurd (omega (arith, is))
+  opened_chip numbers image.TooManyNumbers c is = absurd (omega (arith, is))
 
   spent_first : UsedUpCause old → SpentCause old
   spent_first (inl first) = inl (λ x told. faults_are_caused (chart_of x) old.places image.Spent
       (first x told))
   spent_first (inr met) = inr met
 
-  opened_spent : (e : ImageFault) → OpenedCause e old new → fault_status e ≡ 9 → SpentCause old
-  opened_spent image.Geometry c is = absurd (omega (arith, is))
-  opened_spent image.NotFormatted c is = absurd (omega (arith, is))
-  opened_spent (image.Missing u) c is = absurd (omega (arith, is))
-  opened_spent (image.Chip ReadFault) c is = absurd (omega (arith, is))
-  opened_spent (image.Chip Stopped) c is = absurd (omega (arith, is))
-  opened_spent (image.Chip (Damaged p s stored computed)) c is = absurd (omega (arith, is))
-  opened_spent (image.Chip (Malformed p s)) c is = absurd (omega (arith, is))
-  opened_spent (image.Chip (WornOut n)) c is = absurd (omega (arith, is))
-  opened_spent image.Spent c is = spent_first c
-  opened_spent (image.NoSpare n) c is = absurd (omega (arith, is))
+  opened_spent : (numbers : ℕ) (e : ImageFault) → OpenedCause numbers e old new → fault_status e ≡ 9 → SpentCause old
+  opened_spent numbers image.Geometry c is = absurd (omega (arith, is))
+  opened_spent numbers image.NotFormatted c is = absurd (omega (arith, is))
+  opened_spent numbers (image.Missing u) c is = absurd (omega (arith, is))
+  opened_spent numbers (image.Chip ReadFault) c is = absurd (omega (arith, is))
+  opened_spent numbers (image.Chip Stopped) c is = absurd (omega (arith, is))
+  opened_spent numbers (image.Chip (Damaged p s stored computed)) c is = absurd (omega (arith, is))
+  opened_spent numbers (image.Chip (Malformed p s)) c is = absurd (omega (arith, is))
+  opened_spent numbers (image.Chip (WornOut n)) c is = absurd (omega (arith, is))
+  opened_spent numbers image.Spent c is = spent_first c
+  opened_spent numbers (image.NoSpare n) c is = absurd (omega (arith, is))
+  opened_spent numbers image.TooManyNumbers c is = absurd (omega (arith, is))
 
   -- a format meets no fault of what the chip holds
   format_image : (spares : ℕ) (e : ImageFault) → FormatCause spares e old new
@@ -280,6 +306,7 @@ module _ (old new : Told) where
   )
   format_image spares image.Spent c = absurd c
   format_image spares (image.NoSpare n) c = absurd c
+  format_image spares image.TooManyNumbers c = absurd c
 
   -- a run over a chip that was formatted meets one only where it isn't told, or a call failed
   formatted_image : (e : ImageFault) → FormattedCause e old new → fault_status e ≡ 4
@@ -294,6 +321,7 @@ module _ (old new : Told) where
   formatted_image (image.Chip (WornOut n)) c is = absurd (omega (arith, is))
   formatted_image image.Spent c is = absurd (omega (arith, is))
   formatted_image (image.NoSpare n) c is = inr c
+  formatted_image image.TooManyNumbers c is = inr c
 
   formatted_chip : (e : ImageFault) → FormattedCause e old new → fault_status e ≡ 3
       → CallFailed
@@ -307,6 +335,7 @@ module _ (old new : Told) where
   formatted_chip (image.Chip (WornOut n)) c is = absurd (omega (arith, is))
   formatted_chip image.Spent c is = absurd (omega (arith, is))
   formatted_chip (image.NoSpare n) c is = absurd (omega (arith, is))
+  formatted_chip image.TooManyNumbers c is = absurd (omega (arith, is))
 
   formatted_spent : (e : ImageFault) → FormattedCause e old new → fault_status e ≡ 9
       → AnewCause old
@@ -320,20 +349,22 @@ module _ (old new : Told) where
   formatted_spent (image.Chip (WornOut n)) c is = absurd (omega (arith, is))
   formatted_spent image.Spent c is = c
   formatted_spent (image.NoSpare n) c is = absurd (omega (arith, is))
+  formatted_spent image.TooManyNumbers c is = absurd (omega (arith, is))
 
   -- the status of worn places
-  opened_worn : (e : ImageFault) → OpenedCause e old new → fault_status e ≡ 10
+  opened_worn : (numbers : ℕ) (e : ImageFault) → OpenedCause numbers e old new → fault_status e ≡ 10
       → Rose old.worn_erases new.worn_erases × WearsOut old new
-  opened_worn image.Geometry c is = absurd (omega (arith, is))
-  opened_worn image.NotFormatted c is = absurd (omega (arith, is))
-  opened_worn (image.Missing u) c is = absurd (omega (arith, is))
-  opened_worn (image.Chip ReadFault) c is = absurd (omega (arith, is))
-  opened_worn (image.Chip Stopped) c is = absurd (omega (arith, is))
-  opened_worn (image.Chip (Damaged p s stored computed)) c is = absurd (omega (arith, is))
-  opened_worn (image.Chip (Malformed p s)) c is = absurd (omega (arith, is))
-  opened_worn (image.Chip (WornOut n)) c is = (c.rose, c.wears)
-  opened_worn image.Spent c is = absurd (omega (arith, is))
-  opened_worn (image.NoSpare n) c is = absurd (omega (arith, is))
+  opened_worn numbers image.Geometry c is = absurd (omega (arith, is))
+  opened_worn numbers image.NotFormatted c is = absurd (omega (arith, is))
+  opened_worn numbers (image.Missing u) c is = absurd (omega (arith, is))
+  opened_worn numbers (image.Chip ReadFault) c is = absurd (omega (arith, is))
+  opened_worn numbers (image.Chip Stopped) c is = absurd (omega (arith, is))
+  opened_worn numbers (image.Chip (Damaged p s stored computed)) c is = absurd (omega (arith, is))
+  opened_worn numbers (image.Chip (Malformed p s)) c is = absurd (omega (arith, is))
+  opened_worn numbers (image.Chip (WornOut n)) c is = (c.rose, c.wears)
+  opened_worn numbers image.Spent c is = absurd (omega (arith, is))
+  opened_worn numbers (image.NoSpare n) c is = absurd (omega (arith, is))
+  opened_worn numbers image.TooManyNumbers c is = absurd (omega (arith, is))
 
   format_worn : (spares : ℕ) (e : ImageFault) → FormatCause spares e old new → fault_status e ≡ 10
       → Rose old.worn_erases new.worn_erases × FindsWorn old new
@@ -347,6 +378,7 @@ module _ (old new : Told) where
   format_worn spares (image.Chip (WornOut n)) c is = (c.rose, c.found)
   format_worn spares image.Spent c is = absurd c
   format_worn spares (image.NoSpare n) c is = absurd c
+  format_worn spares image.TooManyNumbers c is = absurd c
 
   formatted_worn : (e : ImageFault) → FormattedCause e old new → fault_status e ≡ 10
       → Rose old.worn_erases new.worn_erases × FindsWorn old new
@@ -360,6 +392,7 @@ module _ (old new : Told) where
   formatted_worn (image.Chip (WornOut n)) c is = (c.rose, c.found)
   formatted_worn image.Spent c is = absurd (omega (arith, is))
   formatted_worn (image.NoSpare n) c is = absurd (omega (arith, is))
+  formatted_worn image.TooManyNumbers c is = absurd (omega (arith, is))
 
 -- ---- by the words
 
@@ -368,54 +401,56 @@ module _ (asked : AskedFor) (old new : Told) (status : ℕ) (e : Ends asked old 
   leaves_of request is = subst (λ (a : AskedFor). EndLeaves a e.ending old new) is e.leaves
 
   pub end_opened : (sessions : ℕ) → AsksOpenedBy sessions asked → AtStatus (RunsOpened sessions old new) status
-  end_opened sessions (frames, closes, is) = (
+  end_opened sessions (frames, numbers, closes, is) = (
     e.ending,
     e.status_is,
     opened_by old new e.ending
-        (leaves_of (Run frames sessions false closes) is),
+        (leaves_of (Run frames sessions numbers false closes) is),
   )
 
-  pub end_refuses : AsksOpened asked → RefusesFaults old new status
-  end_refuses (sessions, (frames, closes, is)) = subst (RefusesFaults old new) (sym e.status_is) (refuses_by old new sessions
-      e.ending (leaves_of (Run frames sessions false closes) is))
+  pub end_refuses : (numbers : ℕ) → AsksOpenedWith numbers asked → RefusesFaults numbers old new status
+  end_refuses numbers (frames, sessions, closes, is) = subst (RefusesFaults numbers old new) (sym e.status_is)
+      (refuses_by old new frames sessions numbers closes e.ending
+      (subst (λ (a : AskedFor). EndCause a e.ending old new) is e.cause)
+      (leaves_of (Run frames sessions numbers false closes) is))
 
   pub end_laid : AsksOpened asked → (status ≡ 0) ⊎ (status ≡ 6) ⊎ (status ≡ 7) ⊎ (status ≡ 8)
       → IsLaidWell old × IsGeometry old.places
-  end_laid (sessions, (frames, closes, is)) at = laid_by old new sessions e.ending (leaves_of (Run frames sessions false closes) is)
+  end_laid (sessions, (frames, numbers, closes, is)) at = laid_by old new sessions e.ending (leaves_of (Run frames sessions numbers false closes) is)
       (rw e.status_is at at)
 
   pub end_read : AsksOpened asked ⊎ AsksFormatted asked → status ≡ 0 → ReadsAll old new
-  end_read (inl (sessions, (frames, closes, is))) at = opened_read old new sessions e.ending (leaves_of (Run frames sessions false closes) is)
+  end_read (inl (sessions, (frames, numbers, closes, is))) at = opened_read old new sessions e.ending (leaves_of (Run frames sessions numbers false closes) is)
       (sym e.status_is ∙ at)
-  end_read (inr (sessions, (frames, closes, is))) at = formatted_read old new sessions e.ending (leaves_of (Run frames sessions true closes) is)
+  end_read (inr (sessions, (frames, numbers, closes, is))) at = formatted_read old new sessions e.ending (leaves_of (Run frames sessions numbers true closes) is)
       (sym e.status_is ∙ at)
 
   pub end_formatted : (sessions : ℕ) → AsksFormattedBy sessions asked → status ≡ 0 → RunsFormatted sessions old new (Ok tt)
-  end_formatted sessions (frames, closes, is) at = formatted_by old new e.ending (leaves_of (Run frames sessions true closes) is)
+  end_formatted sessions (frames, numbers, closes, is) at = formatted_by old new e.ending (leaves_of (Run frames sessions numbers true closes) is)
       (sym e.status_is ∙ at)
 
   pub end_part : (sessions : ℕ) → AsksFormattedBy sessions asked → (status ≡ 6) ⊎ (status ≡ 7) ⊎ (status ≡ 8)
       → AtStatus (RunsFormatted sessions old new) status
-  end_part sessions (frames, closes, is) at = (
+  end_part sessions (frames, numbers, closes, is) at = (
     e.ending,
     e.status_is,
     part_by old new e.ending
-        (leaves_of (Run frames sessions true closes) is) (rw e.status_is at at),
+        (leaves_of (Run frames sessions numbers true closes) is) (rw e.status_is at at),
   )
 
   pub end_stops : (sessions : ℕ) → AsksFormattedBy sessions asked
       → (status ≡ 3) ⊎ (status ≡ 4) ⊎ (status ≡ 9) ⊎ (status ≡ 10)
       → AtStatus (UntouchedOrRuns sessions old new) status
-  end_stops sessions (frames, closes, is) at = (
+  end_stops sessions (frames, numbers, closes, is) at = (
     e.ending,
     e.status_is,
     stops_by old new e.ending
-        (leaves_of (Run frames sessions true closes) is) (rw e.status_is at at),
+        (leaves_of (Run frames sessions numbers true closes) is) (rw e.status_is at at),
   )
 
-  pub end_trials : (seed count frames sessions : ℕ) → asked ≡ Some (Trial seed count frames sessions)
+  pub end_trials : (seed count frames sessions numbers : ℕ) → asked ≡ Some (Trial seed count frames sessions numbers)
       → AtStatus (λ ending. TrialLeaves sessions seed count ending old new) status
-  end_trials seed count frames sessions is = (e.ending, e.status_is, leaves_of (Trial seed count frames sessions) is)
+  end_trials seed count frames sessions numbers is = (e.ending, e.status_is, leaves_of (Trial seed count frames sessions numbers) is)
 
   pub end_formats : (spares : ℕ) → asked ≡ Some (Format spares) → status ≡ 0
       → LaysOut spares old new true
@@ -460,12 +495,12 @@ module _ (old new : Told) where
   wanting_by (Some request) (Err (Chip e)) c l is = absurd (omega (arith, is, chip_status e))
   wanting_by (Some (Format spares)) (Err OutOfMemory) c l is = wanting_untouched
       (Some (Format spares)) l
-  wanting_by (Some (Run frames sessions true closes)) (Err OutOfMemory) c l is = wanting_untouched
-      (Some (Run frames sessions true closes)) l
-  wanting_by (Some (Run frames sessions false closes)) (Err OutOfMemory) c l is = wanting_untouched
-      (Some (Run frames sessions false closes)) l
-  wanting_by (Some (Trial seed count frames sessions)) (Err OutOfMemory) c l is = wanting_untouched
-      (Some (Trial seed count frames sessions)) l
+  wanting_by (Some (Run frames sessions numbers true closes)) (Err OutOfMemory) c l is = wanting_untouched
+      (Some (Run frames sessions numbers true closes)) l
+  wanting_by (Some (Run frames sessions numbers false closes)) (Err OutOfMemory) c l is = wanting_untouched
+      (Some (Run frames sessions numbers false closes)) l
+  wanting_by (Some (Trial seed count frames sessions numbers)) (Err OutOfMemory) c l is = wanting_untouched
+      (Some (Trial seed count frames sessions numbers)) l
   wanting_by (Some (Serial sessions)) (Err OutOfMemory) c l is = (l, λ apart. absurd (apart sessions refl))
   wanting_by (Some Check) (Err OutOfMemory) c l is = wanting_untouched (Some Check) l
   wanting_by (Some request) (Err Script) c l is = absurd (omega (arith, is))
@@ -488,6 +523,7 @@ module _ (old new : Told) where
   format_other spares (image.Chip (WornOut n)) c l is = absurd (omega (arith, is))
   format_other spares image.Spent c l is = absurd c
   format_other spares (image.NoSpare n) c l is = absurd c
+  format_other spares image.TooManyNumbers c l is = absurd c
 
   formatted_other : {sessions : ℕ} (e : ImageFault) → FormattedLeaves sessions (Err (Chip e)) old new
       → ¬ IsGeometry old.places → IsLeftAlone old new
@@ -509,14 +545,14 @@ module _ (old new : Told) where
       → EndLeaves (Some request) (Err (Chip e)) old new → fault_status e ≡ 4
       → IsMisfit (Some request) → IsLeftAlone old new
   chip_other (Format spares) e c l is misfit = format_other spares e c l is
-  chip_other (Run frames sessions true closes) e c l is misfit =
-      formatted_other e l (outside (Run frames sessions true closes) (λ spares same. cc) misfit)
-  chip_other (Run frames sessions false closes) e c l is misfit =
-      l.other (outside (Run frames sessions false closes) (λ spares same. cc) misfit)
+  chip_other (Run frames sessions numbers true closes) e c l is misfit =
+      formatted_other e l (outside (Run frames sessions numbers true closes) (λ spares same. cc) misfit)
+  chip_other (Run frames sessions numbers false closes) e c l is misfit =
+      l.other (outside (Run frames sessions numbers false closes) (λ spares same. cc) misfit)
   chip_other (Serial sessions) e c l is misfit = l
   chip_other Check e c l is misfit = l.other (outside Check (λ spares same. cc) misfit)
-  chip_other (Trial seed count frames sessions) e c l is misfit = trial_other seed count e l
-      (outside (Trial seed count frames sessions) (λ spares same. cc) misfit)
+  chip_other (Trial seed count frames sessions numbers) e c l is misfit = trial_other seed count e l
+      (outside (Trial seed count frames sessions numbers) (λ spares same. cc) misfit)
 
   other_by : (asked : AskedFor) (ending : Ending) → EndCause asked ending old new
       → EndLeaves asked ending old new → status_at ending ≡ 4 → IsMisfit asked
@@ -552,42 +588,44 @@ module _ (old new : Told) where
   chip_by : (request : Request) (e : ImageFault) → ChipCause request e old new → fault_status e ≡ 3
       → CallFailed old new
   chip_by (Format spares) e c is = inr ((format_image old new spares e c).1 is)
-  chip_by (Run frames sessions true closes) e c is = formatted_chip old new e c is
-  chip_by (Run frames sessions false closes) e c is = opened_chip old new e c is
-  chip_by (Trial seed count frames sessions) e c is = formatted_chip old new e c is
+  chip_by (Run frames sessions numbers true closes) e c is = formatted_chip old new e c is
+  chip_by (Run frames sessions numbers false closes) e c is = opened_chip old new numbers e c is
+  chip_by (Trial seed count frames sessions numbers) e c is = formatted_chip old new e c is
   chip_by (Serial sessions) e c is = absurd (omega (arith, is, ap fault_status c.0))
   chip_by Check e c is = inl (checked_chip old new e c is)
 
   worn_by : (request : Request) (e : ImageFault) → ChipCause request e old new → fault_status e ≡ 10
       → Rose old.worn_erases new.worn_erases × WearsAsAsked (Some request) old new
   worn_by (Format spares) e c is = format_worn old new spares e c is
-  worn_by (Run frames sessions true closes) e c is = formatted_worn old new e c is
-  worn_by (Run frames sessions false closes) e c is = opened_worn old new e c is
-  worn_by (Trial seed count frames sessions) e c is = formatted_worn old new e c is
+  worn_by (Run frames sessions numbers true closes) e c is = formatted_worn old new e c is
+  worn_by (Run frames sessions numbers false closes) e c is = opened_worn old new numbers e c is
+  worn_by (Trial seed count frames sessions numbers) e c is = formatted_worn old new e c is
   worn_by (Serial sessions) e c is = absurd (omega (arith, is, ap fault_status c.0))
   worn_by Check e c is = absurd (checked_worn old new e c is)
 
   abbrev Imaged : AskedFor → Type 0
   Imaged asked = (¬ IsGeometry old.places) ⊎ LacksUnits asked old
       ⊎ (AsksOpened asked × StrayCause old) ⊎ (AsksAnew asked × AnewCause old)
-      ⊎ ((asked ≡ Some Check) × IsStray old)
+      ⊎ LacksRoom asked old ⊎ ((asked ≡ Some Check) × IsStray old)
 
   image_by : (request : Request) (e : ImageFault) → ChipCause request e old new → fault_status e ≡ 4
       → Imaged (Some request)
   image_by (Format spares) e c is =
       inr (inl (spares, refl, (format_image old new spares e c).0 is))
-  image_by (Run frames sessions true closes) e c is = elim (formatted_image old new e c is) [
+  image_by (Run frames sessions numbers true closes) e c is = elim (formatted_image old new e c is) [
     | inl other ↦ inl other
-    | inr anew ↦ inr (inr (inr (inl (inl (sessions, (frames, closes, refl)), anew))))
+    | inr anew ↦ inr (inr (inr (inl (inl (sessions, (frames, numbers, closes, refl)), anew))))
   ]
-  image_by (Trial seed count frames sessions) e c is = elim (formatted_image old new e c is) [
+  image_by (Trial seed count frames sessions numbers) e c is = elim (formatted_image old new e c is) [
     | inl other ↦ inl other
-    | inr anew ↦ inr (inr (inr (inl (inr (seed, count, frames, sessions, refl), anew))))
+    | inr anew ↦ inr (inr (inr (inl (inr (seed, count, frames, sessions, numbers, refl), anew))))
   ]
-  image_by (Run frames sessions false closes) e c is =
-      inr (inr (inl ((sessions, (frames, closes, refl)), opened_image old new e c is)))
+  image_by (Run frames sessions numbers false closes) e c is = elim (opened_image old new numbers e c is) [
+    | inl stray ↦ inr (inr (inl ((sessions, (frames, numbers, closes, refl)), stray)))
+    | inr many ↦ inr (inr (inr (inr (inl (numbers, (frames, sessions, closes, refl), many)))))
+  ]
   image_by (Serial sessions) e c is = inl c.1
-  image_by Check e c is = inr (inr (inr (inr (refl, checked_stray old new e c is))))
+  image_by Check e c is = inr (inr (inr (inr (inr (refl, checked_stray old new e c is)))))
 
   abbrev Spends : AskedFor → Type 0
   Spends asked = (AsksOpened asked × SpentCause old) ⊎ (AsksAnew asked × AnewCause old)
@@ -595,13 +633,13 @@ module _ (old new : Told) where
   spent_by : (request : Request) (e : ImageFault) → ChipCause request e old new → fault_status e ≡ 9
       → Spends (Some request)
   spent_by (Format spares) e c is = absurd ((format_image old new spares e c).2 is)
-  spent_by (Run frames sessions true closes) e c is = inr (inl (sessions, (frames, closes, refl)), formatted_spent old new e c is)
-  spent_by (Trial seed count frames sessions) e c is = inr (
-    inr (seed, count, frames, sessions, refl),
+  spent_by (Run frames sessions numbers true closes) e c is = inr (inl (sessions, (frames, numbers, closes, refl)), formatted_spent old new e c is)
+  spent_by (Trial seed count frames sessions numbers) e c is = inr (
+    inr (seed, count, frames, sessions, numbers, refl),
     formatted_spent
         old new e c is,
   )
-  spent_by (Run frames sessions false closes) e c is = inl ((sessions, (frames, closes, refl)), opened_spent old new e c is)
+  spent_by (Run frames sessions numbers false closes) e c is = inl ((sessions, (frames, numbers, closes, refl)), opened_spent old new numbers e c is)
   spent_by (Serial sessions) e c is = absurd (omega (arith, is, ap fault_status c.0))
   spent_by Check e c is = absurd (checked_spent old new e c is)
 
@@ -627,10 +665,10 @@ module _ (old new : Told) where
   script_by (Some request) (Err (Chip e)) c is = absurd (omega (arith, is, chip_status e))
   script_by (Some request) (Err OutOfMemory) c is = absurd (omega (arith, is))
   script_by (Some (Format spares)) (Err Script) c is = absurd c
-  script_by (Some (Run frames sessions formats closes)) (Err Script) c is = c
+  script_by (Some (Run frames sessions numbers formats closes)) (Err Script) c is = c
   script_by (Some (Serial sessions)) (Err Script) c is = c
   script_by (Some Check) (Err Script) c is = absurd c
-  script_by (Some (Trial seed count frames sessions)) (Err Script) c is = absurd c
+  script_by (Some (Trial seed count frames sessions numbers)) (Err Script) c is = absurd c
   script_by (Some request) (Err Output) c is = absurd (omega (arith, is))
   script_by (Some request) (Err TooLong) c is = absurd (omega (arith, is))
 
@@ -655,10 +693,10 @@ module _ (old new : Told) where
   long_by (Some request) (Err Script) c is = absurd (omega (arith, is))
   long_by (Some request) (Err Output) c is = absurd (omega (arith, is))
   long_by (Some (Format spares)) (Err TooLong) c is = absurd c
-  long_by (Some (Run frames sessions formats closes)) (Err TooLong) c is = c
+  long_by (Some (Run frames sessions numbers formats closes)) (Err TooLong) c is = c
   long_by (Some (Serial sessions)) (Err TooLong) c is = c
   long_by (Some Check) (Err TooLong) c is = absurd c
-  long_by (Some (Trial seed count frames sessions)) (Err TooLong) c is = absurd c
+  long_by (Some (Trial seed count frames sessions numbers)) (Err TooLong) c is = absurd c
 
 -- ---- as it was asked
 
@@ -718,7 +756,8 @@ module _ (asked : AskedFor) (old new : Told) (status : ℕ) (e : Ends asked old 
   unfit_at_4 consistent (inr (inl lacks)) fits = inr (inr (inl lacks))
   unfit_at_4 consistent (inr (inr (inl (asks, stray)))) fits =
       inl (asks, stray_unfit old consistent stray)
-  unfit_at_4 consistent (inr (inr (inr (inr stray)))) fits = inr (inr (inr stray))
+  unfit_at_4 consistent (inr (inr (inr (inr (inl many))))) fits = inr (inr (inr (inl many)))
+  unfit_at_4 consistent (inr (inr (inr (inr (inr stray))))) fits = inr (inr (inr (inr stray)))
   unfit_at_4 consistent (inr (inr (inr (inl (asks, anew))))) fits =
       inr (inl (asks, anew_silent old consistent anew))
 

@@ -302,9 +302,9 @@ module _ (old mid : Told) (store : ScriptStore) (s : StartsOpened false old stor
       s.tries.accounts.counts.places run)) h steady rests many were
 
 -- an opening that fails leaves no records
-unopened_trial : {sessions : ℕ} (seed count : ℕ) (old new : Told) (end : End)
-    → (n : IsNotOpened false end old new) → TrialsOpened sessions seed count old new (Err (Chip n.fault))
-unopened_trial {sessions} seed count old new end n = λ h steady rests all were.
+unopened_trial : {sessions : ℕ} (seed count numbers : ℕ) (old new : Told) (end : End)
+    → (n : IsNotOpened false numbers end old new) → TrialsOpened sessions seed count old new (Err (Chip n.fault))
+unopened_trial {sessions} seed count numbers old new end n = λ h steady rests all were.
     let (took, takes, did) = n.tries.steps (whole empty) h steady rests in
     none_tried sessions old.places (commands_on old.places seed count) h did.added did.does.silent
     (subst (λ (n : ℕ). AtEachMoment (λ e. EachStandsIn old.places n (whole empty) (adds_all e h)) did.added)
@@ -401,12 +401,12 @@ module _ (old new : Told) (seed count : ℕ) where
             (λ (last : End). StopsEarly old.places (units_on old.places) h old new (Err last)) is
             (stopped.stops h)),
       ))
-  trial_not_started sessions end (inr (inr (formatted, f, n))) = subst (λ (e : End). TrialLeaves sessions seed count
+  trial_not_started sessions end (inr (inr (formatted, f, numbers, n))) = subst (λ (e : End). TrialLeaves sessions seed count
       (Err e) old new) (sym n.end_is)
       (inr (
         f.fits,
         λ h steady. inl (formatted_trial sessions old formatted new f seed count
-            (unopened_trial seed count formatted new end n) h steady),
+            (unopened_trial seed count numbers formatted new end n) h steady),
       ))
 
   -- no script is read
@@ -415,7 +415,7 @@ module _ (old new : Told) (seed count : ℕ) where
   not_script end (inr (inl stopped)) is =
       let (e, at, cause) = stopped_end old new end stopped in
       absurd (let both : Chip e ≡ Script = sym at ∙ is in cc)
-  not_script end (inr (inr (formatted, f, n))) is = absurd (let both : Chip _ ≡ Script = sym
+  not_script end (inr (inr (formatted, f, numbers, n))) is = absurd (let both : Chip _ ≡ Script = sym
       n.end_is ∙ is in cc)
 
   not_long : (end : End) → IsNotStarted end old new → end ≡ TooLong → ⊥
@@ -423,23 +423,23 @@ module _ (old new : Told) (seed count : ℕ) where
   not_long end (inr (inl stopped)) is =
       let (e, at, cause) = stopped_end old new end stopped in
       absurd (let both : Chip e ≡ TooLong = sym at ∙ is in cc)
-  not_long end (inr (inr (formatted, f, n))) is = absurd (let both : Chip _ ≡ TooLong = sym n.end_is
+  not_long end (inr (inr (formatted, f, numbers, n))) is = absurd (let both : Chip _ ≡ TooLong = sym n.end_is
       ∙ is in cc)
 
-  as_trial : (frames sessions : ℕ) (end : End) → (end ≡ Script → ⊥) → (end ≡ TooLong → ⊥)
-      → RequestCause (Run frames sessions true false) end old new
-      → RequestCause (Trial seed count frames sessions) end old new
-  as_trial frames sessions Words script long c = c
-  as_trial frames sessions (Chip e) script long c = c
-  as_trial frames sessions OutOfMemory script long c = c
-  as_trial frames sessions Script script long c = absurd (script refl)
-  as_trial frames sessions Output script long c = c
-  as_trial frames sessions TooLong script long c = absurd (long refl)
+  as_trial : (frames sessions numbers : ℕ) (end : End) → (end ≡ Script → ⊥) → (end ≡ TooLong → ⊥)
+      → RequestCause (Run frames sessions numbers true false) end old new
+      → RequestCause (Trial seed count frames sessions numbers) end old new
+  as_trial frames sessions numbers Words script long c = c
+  as_trial frames sessions numbers (Chip e) script long c = c
+  as_trial frames sessions numbers OutOfMemory script long c = c
+  as_trial frames sessions numbers Script script long c = absurd (script refl)
+  as_trial frames sessions numbers Output script long c = c
+  as_trial frames sessions numbers TooLong script long c = absurd (long refl)
 
-  pub trial_not_started_cause : (frames sessions : ℕ) (end : End) → IsNotStarted end old new
-      → RequestCause (Trial seed count frames sessions) end old new
-  trial_not_started_cause frames sessions end n = as_trial frames sessions end (not_script end n) (not_long end n)
-      (not_started_cause old new frames sessions false end n)
+  pub trial_not_started_cause : (frames sessions numbers : ℕ) (end : End) → IsNotStarted end old new
+      → RequestCause (Trial seed count frames sessions numbers) end old new
+  trial_not_started_cause frames sessions numbers end n = as_trial frames sessions numbers end (not_script end n) (not_long end n)
+      (not_started_cause old new frames sessions numbers false end n)
 
 -- ---- a trial that was started
 
@@ -480,24 +480,24 @@ module _ (old mid : Told) (store : ScriptStore) (s : StartsFormatted old store m
   never_long (Err stop.Output) stops is = absurd cc
   never_long (Err stop.TooLong) stops is = absurd stops
 
-  cause_by : (frames sessions : ℕ) (result : Result (Unit {0}) Stop) → IfErr result IsTrialStop
-      → EndCause (Some (Run frames sessions true false)) (ending_of result) old new
-      → EndCause (Some (Trial seed count frames sessions)) (ending_of result) old new
-  cause_by frames sessions (Ok u) stops c = tt
-  cause_by frames sessions (Err (stop.Store (fault.Chip f))) stops c = c
-  cause_by frames sessions (Err (stop.Store (fault.Image e))) stops c = c
-  cause_by frames sessions (Err (stop.Store fault.Spent)) stops c = c
-  cause_by frames sessions (Err stop.Script) stops c = absurd stops
-  cause_by frames sessions (Err stop.Output) stops c = c
-  cause_by frames sessions (Err stop.TooLong) stops c = absurd stops
+  cause_by : (frames sessions numbers : ℕ) (result : Result (Unit {0}) Stop) → IfErr result IsTrialStop
+      → EndCause (Some (Run frames sessions numbers true false)) (ending_of result) old new
+      → EndCause (Some (Trial seed count frames sessions numbers)) (ending_of result) old new
+  cause_by frames sessions numbers (Ok u) stops c = tt
+  cause_by frames sessions numbers (Err (stop.Store (fault.Chip f))) stops c = c
+  cause_by frames sessions numbers (Err (stop.Store (fault.Image e))) stops c = c
+  cause_by frames sessions numbers (Err (stop.Store fault.Spent)) stops c = c
+  cause_by frames sessions numbers (Err stop.Script) stops c = absurd stops
+  cause_by frames sessions numbers (Err stop.Output) stops c = c
+  cause_by frames sessions numbers (Err stop.TooLong) stops c = absurd stops
 
-  pub tried_cause : (frames sessions : ℕ) (ending : Ending) → TriesOver seed count ending store mid then new
-      → EndCause (Some (Trial seed count frames sessions)) ending old new
-  tried_cause frames sessions ending t = subst (λ (e : Ending). EndCause (Some (Trial seed count frames sessions)) e
+  pub tried_cause : (frames sessions numbers : ℕ) (ending : Ending) → TriesOver seed count ending store mid then new
+      → EndCause (Some (Trial seed count frames sessions numbers)) ending old new
+  tried_cause frames sessions numbers ending t = subst (λ (e : Ending). EndCause (Some (Trial seed count frames sessions numbers)) e
       old new) (sym t.ending_is)
-      (cause_by frames sessions t.result t.stops (cause_anew old mid store s then new frames sessions false
+      (cause_by frames sessions numbers t.result t.stops (cause_anew old mid store s then new frames sessions numbers false
       (ending_of t.result)
-      (over_cause s.formatted mid store s.opened then new frames sessions false t.result
+      (over_cause s.formatted mid store s.opened then new frames sessions numbers false t.result
       (λ known limits keeps. completes_more (t.completes known limits keeps) (omega arith)) t.cause t.learns t.unspent (never_long t.result t.stops))))
 
 -- ---- as the calls have it

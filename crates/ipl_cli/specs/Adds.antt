@@ -29,8 +29,8 @@ pub record AddsLawfulByMark (old new : Told) : Type 0 where
 abbrev pub AddsAsAsked : AskedFor → Told → Told → Type 0
 AddsAsAsked None old new = AddsLawful old new
 AddsAsAsked (Some (Format spares)) old new = AddsLawful old new
-AddsAsAsked (Some (Run frames sessions true closes)) old new = AddsLawful old new
-AddsAsAsked (Some (Run frames sessions false closes)) old new = AddsLawfulByMark old new
+AddsAsAsked (Some (Run frames sessions numbers true closes)) old new = AddsLawful old new
+AddsAsAsked (Some (Run frames sessions numbers false closes)) old new = AddsLawfulByMark old new
 AddsAsAsked (Some (Serial sessions)) old new = AddsLawful old new
 AddsAsAsked (Some Check) old new = AddsLawful old new
-AddsAsAsked (Some (Trial seed count frames sessions)) old new = AddsLawful old new
+AddsAsAsked (Some (Trial seed count frames sessions numbers)) old new = AddsLawful old new

@@ -93,4 +93,4 @@ pub record AddsLawfully (places : ℕ) (h : History) (old new : Told) : Type 0 w
 
 -- it is asked to run a script over a chip that is opened, and to close that behind it
 abbrev pub AsksClosed : AskedFor → Type 0
-AsksClosed asked = (sessions : ℕ) × (frames : ℕ) × (asked ≡ Some (Run frames sessions false true))
+AsksClosed asked = (sessions : ℕ) × (frames : ℕ) × (numbers : ℕ) × (asked ≡ Some (Run frames sessions numbers false true))

@@ -19,15 +19,22 @@ AskedFor = Option Request
 
 -- they ask for a run with so many sessions over a chip that is opened
 abbrev pub AsksOpenedBy : ℕ → AskedFor → Type 0
-AsksOpenedBy sessions asked = (frames : ℕ) × (closes : Bool) × (asked ≡ Some (Run frames sessions false closes))
+AsksOpenedBy sessions asked = (frames : ℕ) × (numbers : ℕ) × (closes : Bool)
+    × (asked ≡ Some (Run frames sessions numbers false closes))
 
 -- with however many
 abbrev pub AsksOpened : AskedFor → Type 0
 AsksOpened asked = (sessions : ℕ) × AsksOpenedBy sessions asked
 
+-- they ask for one with room for so many committed numbers
+abbrev pub AsksOpenedWith : ℕ → AskedFor → Type 0
+AsksOpenedWith numbers asked = (frames : ℕ) × (sessions : ℕ) × (closes : Bool)
+    × (asked ≡ Some (Run frames sessions numbers false closes))
+
 -- they ask for a run with so many sessions over a chip that is formatted first
 abbrev pub AsksFormattedBy : ℕ → AskedFor → Type 0
-AsksFormattedBy sessions asked = (frames : ℕ) × (closes : Bool) × (asked ≡ Some (Run frames sessions true closes))
+AsksFormattedBy sessions asked = (frames : ℕ) × (numbers : ℕ) × (closes : Bool)
+    × (asked ≡ Some (Run frames sessions numbers true closes))
 
 -- with however many
 abbrev pub AsksFormatted : AskedFor → Type 0
@@ -36,7 +43,8 @@ AsksFormatted asked = (sessions : ℕ) × AsksFormattedBy sessions asked
 -- or for a trial, which formats it first too
 abbrev pub AsksAnew : AskedFor → Type 0
 AsksAnew asked = AsksFormatted asked
-    ⊎ ((seed : ℕ) × (count : ℕ) × (frames : ℕ) × (sessions : ℕ) × (asked ≡ Some (Trial seed count frames sessions)))
+    ⊎ ((seed : ℕ) × (count : ℕ) × (frames : ℕ) × (sessions : ℕ) × (numbers : ℕ)
+    × (asked ≡ Some (Trial seed count frames sessions numbers)))
 
 -- how the program ends: what was asked was done to its end, or it ends before
 abbrev pub Ending : Type 0

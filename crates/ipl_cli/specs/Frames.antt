@@ -1,4 +1,5 @@
--- With how many page frames and sessions what was asked was done, and whether the chip was closed.
+-- With how many page frames and sessions and with room for how many numbers what was asked was done, and whether the chip
+-- was closed.
 use Rattle.std.specs.Prelude.{ℕ, ◌≡◌, true, false, None, Some, Ok}
 use Rattle.std.specs.Option.{option_map}
 use Rattle.chip_trait.specs.Lawful.{IsLawfulAfter, LeavesClean}
@@ -14,16 +15,18 @@ use Rattle.script_store.specs.declared.store.ScriptStore.{ScriptStore}
 use Rattle.script_store.specs.Closes.{MarksSince}
 use Rattle.store_trait.specs.Keeping.{restarts}
 use Rattle.ipl_cli.specs.Ending.{AskedFor, but_noted}
-use Rattle.ipl_cli.specs.Runs.{slots_of, StartsOpened, StartsFormatted, RunsAsAsked, TriesOver, EndsClosed}
+use Rattle.ipl_cli.specs.Runs.{slots_of, room_of, StartsOpened, StartsFormatted, RunsAsAsked, TriesOver, EndsClosed}
 use Rattle.ipl_cli.specs.Top.{OverTold}
 
--- A store of so many frames and sessions was started so over the chip, and then it did this to its end.
+-- A store of so many frames and sessions, with room for so many numbers, was started so over the chip, and then it did this
+-- to its end.
 pub record DoesWith (Starts : Told → ScriptStore → Told → Type 0)
-    (Does : ScriptStore → Told → ScriptStore → Told → Type 0) (frames sessions : ℕ) (old new : Told)
+    (Does : ScriptStore → Told → ScriptStore → Told → Type 0) (frames sessions numbers : ℕ) (old new : Told)
     : Type 0 where
   pub store : ScriptStore
   pub frames_are : store.store.frames ≡ frames
   pub sessions_are : slots_of store ≡ sessions
+  pub numbers_are : room_of store ≡ numbers
   pub started : Told
   pub starts : Starts old store started
   pub then : ScriptStore
@@ -31,19 +34,19 @@ pub record DoesWith (Starts : Told → ScriptStore → Told → Type 0)
   pub does : Does store started then last
   pub noted : new ≡ but_noted last new.beside.noted
 
--- a run and a trial are done by a store of as many frames and sessions as the words ask for; a run that isn't to close the chip does nothing
--- behind the last reply
+-- a run and a trial are done by a store of as many frames and sessions as the words ask for, with room for as many numbers; a
+-- run that isn't to close the chip does nothing behind the last reply
 abbrev pub DoesAsAsked : AskedFor → Told → Told → Type 0
 DoesAsAsked None old new = Unit {0}
 DoesAsAsked (Some (Format spares)) old new = Unit {0}
-DoesAsAsked (Some (Run frames sessions true closes)) old new =
-    DoesWith StartsFormatted (RunsAsAsked closes) frames sessions old new
-DoesAsAsked (Some (Run frames sessions false closes)) old new =
-    DoesWith (StartsOpened true) (RunsAsAsked closes) frames sessions old new
+DoesAsAsked (Some (Run frames sessions numbers true closes)) old new =
+    DoesWith StartsFormatted (RunsAsAsked closes) frames sessions numbers old new
+DoesAsAsked (Some (Run frames sessions numbers false closes)) old new =
+    DoesWith (StartsOpened true) (RunsAsAsked closes) frames sessions numbers old new
 DoesAsAsked (Some (Serial sessions)) old new = Unit {0}
 DoesAsAsked (Some Check) old new = Unit {0}
-DoesAsAsked (Some (Trial seed count frames sessions)) old new =
-    DoesWith StartsFormatted (TriesOver seed count (Ok tt)) frames sessions old new
+DoesAsAsked (Some (Trial seed count frames sessions numbers)) old new =
+    DoesWith StartsFormatted (TriesOver seed count (Ok tt)) frames sessions numbers old new
 
 -- By the story that the chip tells, where that rests on records and no command opens the chip again: each log sector at a
 -- unit's place that was erased since, and not programmed, is marked.
@@ -75,8 +78,8 @@ pub record ClosesOpened (old new : Told) : Type 0 where
 abbrev pub ClosesAsAsked : AskedFor → Told → Told → Type 0
 ClosesAsAsked None old new = Unit {0}
 ClosesAsAsked (Some (Format spares)) old new = Unit {0}
-ClosesAsAsked (Some (Run frames sessions true closes)) old new = closes ≡ true → EndsClosed old new
-ClosesAsAsked (Some (Run frames sessions false closes)) old new = closes ≡ true → ClosesOpened old new
+ClosesAsAsked (Some (Run frames sessions numbers true closes)) old new = closes ≡ true → EndsClosed old new
+ClosesAsAsked (Some (Run frames sessions numbers false closes)) old new = closes ≡ true → ClosesOpened old new
 ClosesAsAsked (Some (Serial sessions)) old new = Unit {0}
 ClosesAsAsked (Some Check) old new = Unit {0}
-ClosesAsAsked (Some (Trial seed count frames sessions)) old new = Unit {0}
+ClosesAsAsked (Some (Trial seed count frames sessions numbers)) old new = Unit {0}

@@ -23,7 +23,7 @@ use Rattle.script_run.specs.Behind.{stop_of}
 use Rattle.script_run.specs.Goes.{EndsReplied, LearnsAlong, StopCause, CompletesOver, ReadsAll, RunsScript}
 use Rattle.page_frames.specs.Pages.{tables_in}
 use Rattle.ipl_store.specs.declared.store.Store.{Store}
-use Rattle.ipl_store.specs.Calls.{IsSound}
+use Rattle.ipl_store.specs.Calls.{numbers_of, IsSound}
 use Rattle.ipl_store.specs.Openings.{OpensStore, Tries}
 use Rattle.script_store.specs.declared.store.ScriptStore.{ScriptStore}
 use Rattle.store_laws.specs.Keeps.{KnownPages, all_pages, limits_of}
@@ -41,6 +41,10 @@ use Rattle.ipl_cli.specs.Top.{FindsWorn, IsTooLong, OverTold, WereUnused, Runs}
 -- how many sessions a store has
 abbrev pub slots_of : ScriptStore → ℕ
 slots_of store = length store.store.transactions.sessions
+
+-- how many committed numbers have room in it
+abbrev pub room_of : ScriptStore → ℕ
+room_of store = numbers_of store.store
 
 -- ---- the start
 
@@ -61,18 +65,19 @@ pub record StartsOpened (marks : Bool) (old : Told) (store : ScriptStore) (new :
   pub opens : OpensStore old.places old store.store new
   pub tries : Tries marks old.places old (Ok tt) (tables_in store.store.transactions.pages) new
 
--- the chip wasn't opened, and it ends so
-pub record IsNotOpened (marks : Bool) (end : End) (old new : Told) : Type 0 where
+-- the chip wasn't opened, where so many committed numbers have room, and it ends so
+pub record IsNotOpened (marks : Bool) (numbers : ℕ) (end : End) (old new : Told) : Type 0 where
   pub fault : ImageFault
   pub end_is : end ≡ Chip fault
   pub fits : IsGeometry old.places
   pub tables : Tables
+  pub room : tables.status.most ≡ numbers
   pub tries : Tries marks old.places old (Err fault) tables new
 
 -- the chip was opened, or it wasn't
-abbrev pub OpensOver : Bool → Result ScriptStore End → Told → Told → Type 0
-OpensOver marks (Ok store) old new = StartsOpened marks old store new
-OpensOver marks (Err end) old new = IsNotOpened marks end old new
+abbrev pub OpensOver : Bool → ℕ → Result ScriptStore End → Told → Told → Type 0
+OpensOver marks numbers (Ok store) old new = StartsOpened marks old store new
+OpensOver marks numbers (Err end) old new = IsNotOpened marks numbers end old new
 
 -- The chip was formatted, with no place to spare.
 pub record WasFormatted (old new : Told) : Type 0 where
@@ -110,7 +115,7 @@ abbrev pub IsNotStarted : End → Told → Told → Type 0
 IsNotStarted end old new =
     (MakesStore old.places (Err end) × (new ≡ old))
     ⊎ IsNotFormatted end old new
-    ⊎ ((formatted : Told) × WasFormatted old formatted × IsNotOpened false end formatted new)
+    ⊎ ((formatted : Told) × WasFormatted old formatted × (numbers : ℕ) × IsNotOpened false numbers end formatted new)
 
 -- ---- the run
 

@@ -11,6 +11,7 @@ use Rattle.chip_trait.specs.Told.{History, Told, Grew, IsPrefix, Rose, adds_all,
 use Rattle.ipl_base.specs.Places.{IsGeometry, IsSpared, units_on, spares_on}
 use Rattle.ipl_base.specs.declared.fault.ChipFault.TheVariants.{ReadFault, Stopped, Damaged, Malformed, WornOut}
 use Rattle.ipl_base.specs.declared.fault.ImageFault.{ImageFault}
+use Rattle.ipl_base.specs.declared.limits.TheConstants.{STATUS_NUMBERS}
 use Rattle.ipl_base.specs.declared.fault.ImageFault.TheVariants as image
 use Rattle.ipl_model.specs.State.{State, Limits, Map, at_rest}
 use Rattle.ipl_model.specs.Grammar.{commands_of}
@@ -26,7 +27,7 @@ use Rattle.unit_io.specs.Reads.{OfContents}
 use Rattle.ipl_meaning.specs.Chosen.{units_at}
 use Rattle.ipl_meaning.specs.Faults.{first_fault, greatest_found}
 use Rattle.restart.specs.Events.{format_events}
-use Rattle.restart.specs.Looks.{OnlyReads}
+use Rattle.restart.specs.Looks.{OnlyReads, AreTooMany, numbers_in}
 use Rattle.place_taking.specs.Spending.{is_found_worn}
 use Rattle.store_laws.specs.Keeps.{IsWornCount, limits_of}
 use Rattle.page_frames.specs.Faulty.{TellsStory}
@@ -39,7 +40,7 @@ use Rattle.command_line.specs.declared.asked.Request.TheVariants.{Format, Run, S
 use Rattle.command_line.specs.declared.end.End.{End}
 use Rattle.command_line.specs.declared.end.End.TheVariants.{Words, Chip, OutOfMemory, Script, Output, TooLong}
 use Rattle.command_line.specs.Ends.{fault_status}
-use Rattle.ipl_cli.specs.Ending.{AskedFor, AsksOpened, AsksAnew, Ending, StopsEarly, IsFormatStopped, IsLeftAlone, but_noted, note_at, status_at, units_beside}
+use Rattle.ipl_cli.specs.Ending.{AskedFor, AsksOpened, AsksOpenedWith, AsksAnew, Ending, StopsEarly, IsFormatStopped, IsLeftAlone, but_noted, note_at, status_at, units_beside}
 use Rattle.ipl_cli.specs.Trials.{TrialLeaves}
 use Rattle.ipl_cli.specs.Views.{ViewedCause, SerialLeaves}
 use Rattle.ipl_cli.specs.Checks.{CheckedCause, CheckLeaves}
@@ -82,11 +83,16 @@ abbrev pub LacksUnits : AskedFor → Told → Type 0
 LacksUnits asked old =
     (spares : ℕ) × (asked ≡ Some (Format spares)) × ¬ IsSpared old.places spares
 
--- what a chip of 5 to 1,028 places held that a run ended at with 4 or 9, or a check; or a format that left
--- no unit
+-- a run over a chip that is opened is asked for with room for fewer numbers than are committed there
+abbrev pub LacksRoom : AskedFor → Told → Type 0
+LacksRoom asked old =
+    (numbers : ℕ) × AsksOpenedWith numbers asked × AreTooMany numbers (numbers_in old.places) old
+
+-- what a chip of 5 to 1,028 places held that a run ended at with 4 or 9, or a check; or a run had room for
+-- fewer numbers; or a format left no unit
 abbrev pub EndsUnfit : AskedFor → Told → Type 0
 EndsUnfit asked old = (AsksOpened asked × IsUnfit old) ⊎ (AsksAnew asked × IsSilent old)
-    ⊎ LacksUnits asked old ⊎ ((asked ≡ Some Check) × IsStray old)
+    ⊎ LacksUnits asked old ⊎ LacksRoom asked old ⊎ ((asked ≡ Some Check) × IsStray old)
 
 -- No write has failed; a history that leaves what the chip holds rests on records; and no number
 -- that is found is 2^62 or more.
@@ -154,19 +160,24 @@ pub record WornOutCause (n : ℕ) (old new : Told) : Type 0 where
   pub rose : Rose old.worn_erases new.worn_erases
   pub wears : WearsOut old new
 
--- when a fault of the chip ends a run that opens it
-abbrev pub OpenedCause : ImageFault → Told → Told → Type 0
-OpenedCause image.Geometry old new = LaidCause image.Geometry old
-OpenedCause image.NotFormatted old new = LaidCause image.NotFormatted old
-OpenedCause (image.Missing u) old new = LaidCause (image.Missing u) old
-OpenedCause (image.Chip ReadFault) old new = Rose old.read_faults new.read_faults
-OpenedCause (image.Chip Stopped) old new = Rose old.write_faults new.write_faults
-OpenedCause (image.Chip (Damaged p s stored computed)) old new =
+-- that more numbers are committed than have room was found when it was opened, or met again
+abbrev pub TooManyCause : ℕ → Told → Type 0
+TooManyCause numbers old = AreTooMany numbers (numbers_in old.places) old ⊎ IsMetAgain old
+
+-- when a fault of the chip ends a run that opens it, with room for so many committed numbers
+abbrev pub OpenedCause : ℕ → ImageFault → Told → Told → Type 0
+OpenedCause numbers image.Geometry old new = LaidCause image.Geometry old
+OpenedCause numbers image.NotFormatted old new = LaidCause image.NotFormatted old
+OpenedCause numbers (image.Missing u) old new = LaidCause (image.Missing u) old
+OpenedCause numbers (image.Chip ReadFault) old new = Rose old.read_faults new.read_faults
+OpenedCause numbers (image.Chip Stopped) old new = Rose old.write_faults new.write_faults
+OpenedCause numbers (image.Chip (Damaged p s stored computed)) old new =
     (stored ≢ computed) × StrayCause old
-OpenedCause (image.Chip (Malformed p s)) old new = StrayCause old
-OpenedCause (image.Chip (WornOut n)) old new = WornOutCause n old new
-OpenedCause image.Spent old new = UsedUpCause old
-OpenedCause (image.NoSpare n) old new = LaidCause (image.NoSpare n) old
+OpenedCause numbers (image.Chip (Malformed p s)) old new = StrayCause old
+OpenedCause numbers (image.Chip (WornOut n)) old new = WornOutCause n old new
+OpenedCause numbers image.Spent old new = UsedUpCause old
+OpenedCause numbers (image.NoSpare n) old new = LaidCause (image.NoSpare n) old
+OpenedCause numbers image.TooManyNumbers old new = TooManyCause numbers old
 
 -- when a fault of the chip ends a format with so many places to spare
 abbrev pub FormatCause : ℕ → ImageFault → Told → Told → Type 0
@@ -180,6 +191,7 @@ FormatCause spares (image.Chip (Malformed p s)) old new = ⊥
 FormatCause spares (image.Chip (WornOut n)) old new = WornCause n old new
 FormatCause spares image.Spent old new = ⊥
 FormatCause spares (image.NoSpare n) old new = ⊥
+FormatCause spares image.TooManyNumbers old new = ⊥
 
 -- What was just formatted is at fault: the chip doesn't tell what it holds, or a write had failed
 -- before.
@@ -207,13 +219,14 @@ FormattedCause (image.Chip (Malformed p s)) old new = AnewCause old
 FormattedCause (image.Chip (WornOut n)) old new = WornAnewCause n old new
 FormattedCause image.Spent old new = AnewCause old
 FormattedCause (image.NoSpare n) old new = AnewCause old
+FormattedCause image.TooManyNumbers old new = AnewCause old
 
 -- when a fault of the chip ends what was asked
 abbrev pub ChipCause : Request → ImageFault → Told → Told → Type 0
 ChipCause (Format spares) e old new = FormatCause spares e old new
-ChipCause (Run frames sessions true closes) e old new = FormattedCause e old new
-ChipCause (Run frames sessions false closes) e old new = OpenedCause e old new
-ChipCause (Trial seed count frames sessions) e old new = FormattedCause e old new
+ChipCause (Run frames sessions numbers true closes) e old new = FormattedCause e old new
+ChipCause (Run frames sessions numbers false closes) e old new = OpenedCause numbers e old new
+ChipCause (Trial seed count frames sessions numbers) e old new = FormattedCause e old new
 ChipCause (Serial sessions) e old new = ViewedCause e old new
 ChipCause Check e old new = CheckedCause e old new
 
@@ -228,17 +241,17 @@ RequestCause request Words old new = ⊥
 RequestCause request (Chip e) old new = ChipCause request e old new
 RequestCause request OutOfMemory old new = Unit {0}
 RequestCause (Format spares) Script old new = ⊥
-RequestCause (Run frames sessions formats closes) Script old new =
+RequestCause (Run frames sessions numbers formats closes) Script old new =
     Rose old.beside.script_faults new.beside.script_faults
 RequestCause (Serial sessions) Script old new = Rose old.beside.script_faults new.beside.script_faults
 RequestCause Check Script old new = ⊥
-RequestCause (Trial seed count frames sessions) Script old new = ⊥
+RequestCause (Trial seed count frames sessions numbers) Script old new = ⊥
 RequestCause request Output old new = Rose old.beside.say_faults new.beside.say_faults
 RequestCause (Format spares) TooLong old new = ⊥
-RequestCause (Run frames sessions formats closes) TooLong old new = IsTooLong old new
+RequestCause (Run frames sessions numbers formats closes) TooLong old new = IsTooLong old new
 RequestCause (Serial sessions) TooLong old new = IsTooLong old new
 RequestCause Check TooLong old new = ⊥
-RequestCause (Trial seed count frames sessions) TooLong old new = ⊥
+RequestCause (Trial seed count frames sessions numbers) TooLong old new = ⊥
 
 -- when the program ends so
 abbrev pub EndCause : AskedFor → Ending → Told → Told → Type 0
@@ -255,11 +268,11 @@ EndCause (Some request) (Err end) old new = RequestCause request end old new
 abbrev pub WearsAsAsked : AskedFor → Told → Told → Type 0
 WearsAsAsked None old new = ⊥
 WearsAsAsked (Some (Format spares)) old new = FindsWorn old new
-WearsAsAsked (Some (Run frames sessions true closes)) old new = FindsWorn old new
-WearsAsAsked (Some (Run frames sessions false closes)) old new = WearsOut old new
+WearsAsAsked (Some (Run frames sessions numbers true closes)) old new = FindsWorn old new
+WearsAsAsked (Some (Run frames sessions numbers false closes)) old new = WearsOut old new
 WearsAsAsked (Some (Serial sessions)) old new = ⊥
 WearsAsAsked (Some Check) old new = ⊥
-WearsAsAsked (Some (Trial seed count frames sessions)) old new = FindsWorn old new
+WearsAsAsked (Some (Trial seed count frames sessions numbers)) old new = FindsWorn old new
 
 -- ---- the headline
 
@@ -485,10 +498,11 @@ pub record OnlyLooks (old new : Told) : Type 0 where
 abbrev pub EndsAtFault : ImageFault → ImageFault → Type 0
 EndsAtFault e ended = (ended ≡ e) ⊎ (ended ≡ image.Chip ReadFault)
 
--- a chip that has a fault as it is laid out was only read, and the run ended with that fault
+-- a chip that has a fault as it is laid out was only read, and the run ended with that fault, or since its
+-- numbers have no room
 abbrev pub IsRefused : ImageFault → Told → Told → Type 0
 IsRefused ended old new = (e : ImageFault) → HasFault old e
-    → OnlyLooks old new × EndsAtFault e ended
+    → OnlyLooks old new × (EndsAtFault e ended ⊎ (ended ≡ image.TooManyNumbers))
 
 -- what a run leaves over a chip that is opened, which ends with a fault of the chip
 pub record OpenedStops (sessions : ℕ) (e : ImageFault) (old new : Told) : Type 0 where
@@ -517,11 +531,11 @@ OpenedLeaves sessions (Err TooLong) old new = OpenedRuns sessions old new (Err T
 abbrev pub EndLeaves : AskedFor → Ending → Told → Told → Type 0
 EndLeaves None ending old new = IsLeftAlone old new
 EndLeaves (Some (Format spares)) ending old new = FormatLeaves spares ending old new
-EndLeaves (Some (Run frames sessions true closes)) ending old new = FormattedLeaves sessions ending old new
-EndLeaves (Some (Run frames sessions false closes)) ending old new = OpenedLeaves sessions ending old new
+EndLeaves (Some (Run frames sessions numbers true closes)) ending old new = FormattedLeaves sessions ending old new
+EndLeaves (Some (Run frames sessions numbers false closes)) ending old new = OpenedLeaves sessions ending old new
 EndLeaves (Some (Serial sessions)) ending old new = SerialLeaves sessions ending old new
 EndLeaves (Some Check) ending old new = CheckLeaves ending old new
-EndLeaves (Some (Trial seed count frames sessions)) ending old new = TrialLeaves sessions seed count ending old new
+EndLeaves (Some (Trial seed count frames sessions numbers)) ending old new = TrialLeaves sessions seed count ending old new
 
 -- How the program ends: with its status and its line, which is noted alone; for a cause; and what it
 -- leaves.
@@ -545,11 +559,13 @@ pub record NoneFalls (old new : Told) : Type 0 where
 
 -- ---- by the status
 
--- A chip that has a fault as it is laid out was only read; the run ended with that fault's status,
--- with 3 where a read of the chip failed, or for want of memory.
-abbrev pub RefusesFaults : Told → Told → ℕ → Type 0
-RefusesFaults old new status = (e : ImageFault) → HasFault old e
-    → OnlyLooks old new × ((status ≡ fault_status e) ⊎ (status ≡ 3) ⊎ (status ≡ 5))
+-- A chip that has a fault as it is laid out was only read; the run, with room for so many numbers, ended with
+-- that fault's status, with 3 where a read of the chip failed, for want of memory, or with 4 since more numbers
+-- are committed.
+abbrev pub RefusesFaults : ℕ → Told → Told → ℕ → Type 0
+RefusesFaults numbers old new status = (e : ImageFault) → HasFault old e
+    → OnlyLooks old new × ((status ≡ fault_status e) ⊎ (status ≡ 3) ⊎ (status ≡ 5)
+    ⊎ ((status ≡ 4) × AreTooMany numbers (numbers_in old.places) old))
 
 -- when a run over a chip that is opened ends with 9
 abbrev pub SpentCause : Told → Type 0
@@ -576,16 +592,23 @@ pub record IsTold (t : Told) : Type 0 where
   pub contents : Contents
   pub told : t.contents ≡ Some contents
 
+-- so many committed numbers have room, if fewer than a status place has, and at least those of a chip that
+-- tells what it holds
+abbrev pub HasRoomFor : ℕ → Told → Type 0
+HasRoomFor numbers old = numbers < STATUS_NUMBERS
+    → OfContents old (λ x. length (numbers_in old.places (chart_of x)) ≤ numbers)
+
 -- what a request asks of the chip: 5 to 1,028 places, and a unit besides those to spare; where commands
 -- are done, that it tells what it holds; where it is opened, that a history of that rests on records,
--- with numbers left; and where it is checked, that what it holds stands for records
+-- with numbers left, and that its committed numbers have room; and where it is checked, that what it holds
+-- stands for records
 abbrev pub Suffices : Request → Told → Type 0
 Suffices (Format spares) old = IsSpared old.places spares
-Suffices (Run frames sessions true closes) old = IsTold old
-Suffices (Run frames sessions false closes) old = RestsWithNumbersLeft old
+Suffices (Run frames sessions numbers true closes) old = IsTold old
+Suffices (Run frames sessions numbers false closes) old = RestsWithNumbersLeft old × HasRoomFor numbers old
 Suffices (Serial sessions) old = IsGeometry old.places
 Suffices Check old = (m : Map) × HoldsRecords old.places (whole m) old
-Suffices (Trial seed count frames sessions) old = IsTold old
+Suffices (Trial seed count frames sessions numbers) old = IsTold old
 
 -- the script ends in time: by the count of its bytes, or as it is told
 abbrev pub EndsInTime : Told → Told → Type 0

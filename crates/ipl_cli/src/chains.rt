@@ -141,14 +141,14 @@ pub fn trial_and_run<D: Desk>(
     desk: &mut D,
 ) -> bool
     requires { AsksOpened (requested (map string_bytes second.now)) }
-    ensures rests { (seed count frames tried sessions : ℕ) (script : List ℕ)
-        → requested (map string_bytes first.now) ≡ Some (Trial seed count frames tried)
+    ensures rests { (seed count frames tried sessions numbers : ℕ) (script : List ℕ)
+        → requested (map string_bytes first.now) ≡ Some (Trial seed count frames tried numbers)
         → AsksOpenedBy sessions (requested (map string_bytes second.now))
         → IsFormattable script (D.told desk.old)
         → Unrisen (D.told desk.old) (D.told desk.new) → result ≡ true
         → RestsOn (whole (records_tried tried sessions (D.told desk.old).places seed count script)) [] (D.told desk.new) }
-    ensures lawful { (seed count frames tried sessions : ℕ) (script : List ℕ)
-        → requested (map string_bytes first.now) ≡ Some (Trial seed count frames tried)
+    ensures lawful { (seed count frames tried sessions numbers : ℕ) (script : List ℕ)
+        → requested (map string_bytes first.now) ≡ Some (Trial seed count frames tried numbers)
         → AsksOpenedBy sessions (requested (map string_bytes second.now))
         → IsLawfullyFormattable script (D.told desk.old)
         → Unrisen (D.told desk.old) (D.told desk.new) → result ≡ true

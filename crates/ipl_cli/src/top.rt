@@ -2,35 +2,35 @@
 ghost use Rattle.std.specs.Prelude.{Bool, ◌≡◌, ◌≢◌, ◌<◌, ◌≤◌, ◌⊎◌, ◌+◌, ◌++◌, ◌==◌, true, false, map, List, length, ℕ, Some, None, Ok, IfOk, IfErr, OnOk};
 ghost use Rattle.std.specs.String.{string_bytes};
 ghost use Rattle.chip_trait.specs.Told.{Counts, Grew, Rose};
-ghost use Rattle.ipl_base.specs.declared.limits.TheConstants.{SESSIONS, MOST_SPARES};
+ghost use Rattle.ipl_base.specs.declared.limits.TheConstants.{LEAST_NUMBERS, SESSIONS, STATUS_NUMBERS, MOST_SPARES};
 ghost use Rattle.ipl_base.specs.Places.{IsGeometry};
 ghost use Rattle.store_trait.specs.Keeping.{FOUND_NUMBER};
 ghost use Rattle.store_trait.specs.Onward.{Further};
 ghost use Rattle.script_run.specs.Goes.{EndsReplied, ReadsAll};
 ghost use Rattle.script_store.specs.Keeps.{IsRunning, next_number};
-ghost use Rattle.ipl_store.specs.Calls.{IsSound};
+ghost use Rattle.ipl_store.specs.Calls.{numbers_of, IsSound};
 ghost use Rattle.command_line.specs.Asked.{IsInBounds};
 ghost use Rattle.command_line.specs.Choice.{requested};
 ghost use Rattle.command_line.specs.declared.asked.Request.{Request};
 ghost use Rattle.command_line.specs.declared.asked.Request.TheVariants.{Format, Run, Serial, Check, Trial};
 ghost use Rattle.ipl_cli.specs.Trials.{TrialLeaves};
 ghost use Rattle.ipl_cli.specs.Adds.{AddsLawful, AddsLawfulByMark, AddsAsAsked};
-ghost use Rattle.ipl_cli.specs.Ending.{AsksOpened, AsksOpenedBy, AsksFormatted, AsksFormattedBy, AsksAnew, AtStatus, status_at, note_at, but_noted, format_end, IsLeftAlone};
+ghost use Rattle.ipl_cli.specs.Ending.{AsksOpened, AsksOpenedBy, AsksOpenedWith, AsksFormatted, AsksFormattedBy, AsksAnew, AtStatus, status_at, note_at, but_noted, format_end, IsLeftAlone};
 ghost use Rattle.ipl_cli.specs.Checks.{CheckLeaves};
 ghost use Rattle.ipl_cli.specs.Views.{ViewsTold, OnlyViews, OnlyHears, SerialLeaves, view_end};
 ghost use Rattle.ipl_cli.specs.Top.{NoneFalls, EndCause, RequestCause, FormatLeaves, FormattedLeaves, OpenedLeaves, EndLeaves};
 ghost use Rattle.ipl_cli.specs.Top.{RunsOpened, RunsFormatted, UntouchedOrRuns, RefusesFaults, IsLaidWell, LaysOut};
 ghost use Rattle.ipl_cli.specs.Top.{EndsWithRecords, FromItsRecords, FromNoRecords};
-ghost use Rattle.ipl_cli.specs.Top.{IsStray, StrayCause, SpentCause, AnewCause, LacksUnits, EndsUnfit, IsCalm, Suffices, EndsInTime, Ends, WearsAsAsked};
+ghost use Rattle.ipl_cli.specs.Top.{IsStray, StrayCause, SpentCause, AnewCause, LacksUnits, LacksRoom, EndsUnfit, IsCalm, Suffices, EndsInTime, Ends, WearsAsAsked};
 ghost use Rattle.ipl_cli.specs.Survives.{Survives, SurvivesAnew};
 ghost use Rattle.ipl_cli.specs.Frames.{DoesWith, DoesAsAsked, ClosesOpened, ClosesAsAsked};
-ghost use Rattle.ipl_cli.specs.Runs.{slots_of, StartsFormatted, StartsOpened, MakesStore, FormatsFirst, OpensOver, IsNotStarted, ClosesBehind, EndsClosed, ClosesScript, RunsClosing, RunsOver, RunsAsAsked, TriesOver, end_of};
+ghost use Rattle.ipl_cli.specs.Runs.{slots_of, room_of, StartsFormatted, StartsOpened, MakesStore, FormatsFirst, OpensOver, IsNotStarted, ClosesBehind, EndsClosed, ClosesScript, RunsClosing, RunsOver, RunsAsAsked, TriesOver, end_of};
 
 use crate::checking::check_chip;
 use chip_trait::Desk;
 use command_line::{End, NoteLine, Request, request, status};
 use ipl_base::{ChipFault, FormatFault, Geometry, ImageFault, MOST_UNITS};
-use ipl_store::Store;
+use ipl_store::{Memory, Store};
 use restart::format;
 use script_run::{Stop, ViewStop, run_script, run_trial, say_serial_view};
 use script_store::ScriptStore;
@@ -68,20 +68,30 @@ fn format_chip<D: Desk>(spares: u32, desk: &mut D) -> Result<(), End>
     }
 }
 
-/// The memory of a store with so many frames and sessions for a chip of so many places, which isn't opened yet.
-fn closed(alloc: Global, places: u32, frames: u32, sessions: u32) -> Result<Store, End>
+/// The memory of a store with so many frames and sessions, and room for so many committed numbers, for a chip of so
+/// many places, which isn't opened yet.
+fn closed(
+    alloc: Global,
+    places: u32,
+    frames: u32,
+    sessions: u32,
+    numbers: u32,
+) -> Result<Store, End>
     requires two { 2 ≤ frames }
     requires few { frames ≤ 64 }
     requires sessions { sessions ≤ SESSIONS }
+    requires least { LEAST_NUMBERS ≤ numbers }
+    requires most { numbers ≤ STATUS_NUMBERS }
     ensures closes { MakesStore places result }
     ensures frames { IfOk result (λ store. store.frames ≡ frames) }
     ensures sessions { IfOk result (λ store. length store.transactions.sessions ≡ sessions) }
+    ensures numbers { IfOk result (λ store. numbers_of store ≡ numbers) }
 {
     let Some(geometry) = Geometry::of(places) else {
         return Err(End::Chip(ImageFault::Geometry));
     };
-    match Store::closed(alloc, geometry, frames, sessions) {
-        Ok(store) => Ok(store),
+    match Memory::new(alloc, geometry, frames, sessions, numbers) {
+        Ok(memory) => Ok(Store::closed(memory)),
         Err(_) => Err(End::OutOfMemory),
     }
 }
@@ -100,9 +110,10 @@ fn format_first<D: Desk>(desk: &mut D) -> Result<(), End>
 /// Opens the chip, and makes the store of what it holds.
 fn open_over<D: Desk>(mut store: Store, desk: &mut D, marks: bool) -> Result<ScriptStore, End>
     requires sound { IsSound (D.told desk.old).places store }
-    ensures opens { OpensOver marks result (D.told desk.old) (D.told desk.new) }
+    ensures opens { OpensOver marks (numbers_of store) result (D.told desk.old) (D.told desk.new) }
     ensures frames { IfOk result (λ started. started.store.frames ≡ store.frames) }
     ensures sessions { IfOk result (λ started. slots_of started ≡ length store.transactions.sessions) }
+    ensures numbers { IfOk result (λ started. room_of started ≡ numbers_of store) }
 {
     match store.open_chip(desk, marks) {
         Ok(()) => Ok(ScriptStore::over(store)),
@@ -116,18 +127,22 @@ fn start_formatted<D: Desk>(
     alloc: Global,
     frames: u32,
     sessions: u32,
+    numbers: u32,
     desk: &mut D,
 ) -> Result<ScriptStore, End>
     requires two { 2 ≤ frames }
     requires few { frames ≤ 64 }
     requires sessions { sessions ≤ SESSIONS }
+    requires least { LEAST_NUMBERS ≤ numbers }
+    requires most { numbers ≤ STATUS_NUMBERS }
     ensures starts { IfOk result (λ store. StartsFormatted (D.told desk.old) store (D.told desk.new)) }
     ensures frames { IfOk result (λ store. store.store.frames ≡ frames) }
     ensures sessions { IfOk result (λ store. slots_of store ≡ sessions) }
+    ensures numbers { IfOk result (λ store. room_of store ≡ numbers) }
     ensures stops { IfErr result (λ end. IsNotStarted end (D.told desk.old) (D.told desk.new)) }
     ensures counts { Counts (D.told desk.old) (D.told desk.new) }
 {
-    let store = closed(alloc, desk.units(), frames, sessions)?;
+    let store = closed(alloc, desk.units(), frames, sessions, numbers)?;
     format_first(desk)?;
     // What was just formatted has no mark.
     let started = open_over(store, desk, false)?;
@@ -139,20 +154,24 @@ fn start_opened<D: Desk>(
     alloc: Global,
     frames: u32,
     sessions: u32,
+    numbers: u32,
     desk: &mut D,
 ) -> Result<ScriptStore, End>
     requires two { 2 ≤ frames }
     requires few { frames ≤ 64 }
     requires sessions { sessions ≤ SESSIONS }
+    requires least { LEAST_NUMBERS ≤ numbers }
+    requires most { numbers ≤ STATUS_NUMBERS }
     ensures starts { IfOk result (λ store. StartsOpened true (D.told desk.old) store (D.told desk.new)) }
     ensures frames { IfOk result (λ store. store.store.frames ≡ frames) }
     ensures sessions { IfOk result (λ store. slots_of store ≡ sessions) }
+    ensures numbers { IfOk result (λ store. room_of store ≡ numbers) }
     ensures leaves { IfErr result (λ end. OpenedLeaves sessions (Err end) (D.told desk.old) (D.told desk.new)) }
-    ensures cause { IfErr result (λ end. (closes : Bool) → RequestCause (Run frames sessions false closes) end (D.told desk.old) (D.told desk.new)) }
+    ensures cause { IfErr result (λ end. (closes : Bool) → RequestCause (Run frames sessions numbers false closes) end (D.told desk.old) (D.told desk.new)) }
     ensures lawful { IfErr result (λ end. AddsLawfulByMark (D.told desk.old) (D.told desk.new)) }
     ensures counts { Counts (D.told desk.old) (D.told desk.new) }
 {
-    let store = closed(alloc, desk.units(), frames, sessions)?;
+    let store = closed(alloc, desk.units(), frames, sessions, numbers)?;
     let started = open_over(store, desk, true)?;
     Ok(started)
 }
@@ -215,21 +234,24 @@ fn run_formatted<D: Desk>(
     alloc: Global,
     frames: u32,
     sessions: u32,
+    numbers: u32,
     closes: bool,
     desk: &mut D,
 ) -> Result<(), End>
     requires two { 2 ≤ frames }
     requires few { frames ≤ 64 }
     requires sessions { sessions ≤ SESSIONS }
+    requires least { LEAST_NUMBERS ≤ numbers }
+    requires most { numbers ≤ STATUS_NUMBERS }
     ensures leaves { FormattedLeaves sessions result (D.told desk.old) (D.told desk.new) }
-    ensures framed { OnOk result (DoesWith StartsFormatted (RunsAsAsked closes) frames sessions
+    ensures framed { OnOk result (DoesWith StartsFormatted (RunsAsAsked closes) frames sessions numbers
         (D.told desk.old) (D.told desk.new)) }
     ensures closed { OnOk result (closes ≡ true → EndsClosed (D.told desk.old) (D.told desk.new)) }
-    ensures cause { EndCause (Some (Run frames sessions true closes)) result (D.told desk.old) (D.told desk.new) }
+    ensures cause { EndCause (Some (Run frames sessions numbers true closes)) result (D.told desk.old) (D.told desk.new) }
     ensures further { Further (D.told desk.old) (D.told desk.new) }
     ensures lawful { AddsLawful (D.told desk.old) (D.told desk.new) }
 {
-    let mut store = start_formatted(alloc, frames, sessions, desk)?;
+    let mut store = start_formatted(alloc, frames, sessions, numbers, desk)?;
     run_over(&mut store, desk, closes)?;
     Ok(())
 }
@@ -239,21 +261,24 @@ fn run_opened<D: Desk>(
     alloc: Global,
     frames: u32,
     sessions: u32,
+    numbers: u32,
     closes: bool,
     desk: &mut D,
 ) -> Result<(), End>
     requires two { 2 ≤ frames }
     requires few { frames ≤ 64 }
     requires sessions { sessions ≤ SESSIONS }
+    requires least { LEAST_NUMBERS ≤ numbers }
+    requires most { numbers ≤ STATUS_NUMBERS }
     ensures leaves { OpenedLeaves sessions result (D.told desk.old) (D.told desk.new) }
-    ensures framed { OnOk result (DoesWith (StartsOpened true) (RunsAsAsked closes) frames sessions
+    ensures framed { OnOk result (DoesWith (StartsOpened true) (RunsAsAsked closes) frames sessions numbers
         (D.told desk.old) (D.told desk.new)) }
     ensures closed { OnOk result (closes ≡ true → ClosesOpened (D.told desk.old) (D.told desk.new)) }
-    ensures cause { EndCause (Some (Run frames sessions false closes)) result (D.told desk.old) (D.told desk.new) }
+    ensures cause { EndCause (Some (Run frames sessions numbers false closes)) result (D.told desk.old) (D.told desk.new) }
     ensures further { Further (D.told desk.old) (D.told desk.new) }
     ensures lawful { AddsLawfulByMark (D.told desk.old) (D.told desk.new) }
 {
-    let mut store = start_opened(alloc, frames, sessions, desk)?;
+    let mut store = start_opened(alloc, frames, sessions, numbers, desk)?;
     run_over(&mut store, desk, closes)?;
     Ok(())
 }
@@ -283,6 +308,7 @@ fn trial<D: Desk>(
     alloc: Global,
     frames: u32,
     sessions: u32,
+    numbers: u32,
     seed: u32,
     count: u32,
     desk: &mut D,
@@ -290,14 +316,16 @@ fn trial<D: Desk>(
     requires two { 2 ≤ frames }
     requires few { frames ≤ 64 }
     requires sessions { sessions ≤ SESSIONS }
+    requires least { LEAST_NUMBERS ≤ numbers }
+    requires most { numbers ≤ STATUS_NUMBERS }
     ensures leaves { TrialLeaves sessions seed count result (D.told desk.old) (D.told desk.new) }
-    ensures framed { OnOk result (DoesWith StartsFormatted (TriesOver seed count (Ok tt)) frames sessions
+    ensures framed { OnOk result (DoesWith StartsFormatted (TriesOver seed count (Ok tt)) frames sessions numbers
         (D.told desk.old) (D.told desk.new)) }
-    ensures cause { EndCause (Some (Trial seed count frames sessions)) result (D.told desk.old) (D.told desk.new) }
+    ensures cause { EndCause (Some (Trial seed count frames sessions numbers)) result (D.told desk.old) (D.told desk.new) }
     ensures further { Further (D.told desk.old) (D.told desk.new) }
     ensures lawful { AddsLawful (D.told desk.old) (D.told desk.new) }
 {
-    let mut store = start_formatted(alloc, frames, sessions, desk)?;
+    let mut store = start_formatted(alloc, frames, sessions, numbers, desk)?;
     trial_over(&mut store, desk, seed, count)?;
     Ok(())
 }
@@ -346,15 +374,17 @@ fn run_request<D: Desk>(alloc: Global, request: Request, desk: &mut D) -> Result
         Request::Run {
             frames,
             sessions,
+            numbers,
             format: true,
             close,
-        } => run_formatted(alloc, frames, sessions, close, desk),
+        } => run_formatted(alloc, frames, sessions, numbers, close, desk),
         Request::Run {
             frames,
             sessions,
+            numbers,
             format: false,
             close,
-        } => run_opened(alloc, frames, sessions, close, desk),
+        } => run_opened(alloc, frames, sessions, numbers, close, desk),
         Request::Serial { sessions } => say_view(alloc, sessions, desk),
         Request::Check => check_chip(alloc, desk),
         Request::Trial {
@@ -362,7 +392,8 @@ fn run_request<D: Desk>(alloc: Global, request: Request, desk: &mut D) -> Result
             count,
             frames,
             sessions,
-        } => trial(alloc, frames, sessions, seed, count, desk),
+            numbers,
+        } => trial(alloc, frames, sessions, numbers, seed, count, desk),
     }
 }
 
@@ -431,15 +462,15 @@ pub fn top<D: Desk>(alloc: Global, words: &[String], desk: &mut D) -> u8
         → SurvivesAnew sessions (D.told desk.old) (D.told desk.new) }
 
     // What is told of a chip that has a fault as it is laid out: it was only read, and the program
-    // ended with that fault. At 0, 6, 7 and 8 it had none.
-    ensures refuses { AsksOpened (requested (map string_bytes words.now))
-        → RefusesFaults (D.told desk.old) (D.told desk.new) result }
+    // ended with that fault, or since more numbers are committed than have room. At 0, 6, 7 and 8 it had none.
+    ensures refuses { (numbers : ℕ) → AsksOpenedWith numbers (requested (map string_bytes words.now))
+        → RefusesFaults numbers (D.told desk.old) (D.told desk.new) result }
     ensures laid { AsksOpened (requested (map string_bytes words.now))
         → (result ≡ 0) ⊎ (result ≡ 6) ⊎ (result ≡ 7) ⊎ (result ≡ 8)
         → IsLaidWell (D.told desk.old) × IsGeometry (D.told desk.old).places }
 
-    // At 0 it was done by a store of as many page frames and sessions as the words ask for. A run that isn't to close the chip
-    // did nothing behind its last reply.
+    // At 0 it was done by a store of as many page frames and sessions as the words ask for, with room for as many committed
+    // numbers. A run that isn't to close the chip did nothing behind its last reply.
     ensures framed { result ≡ 0
         → DoesAsAsked (requested (map string_bytes words.now)) (D.told desk.old) (D.told desk.new) }
 
@@ -478,8 +509,8 @@ pub fn top<D: Desk>(alloc: Global, words: &[String], desk: &mut D) -> u8
 
     // A trial says its summary at 0, a beginning of it wherever it ends, and the chip has the records
     // of the commands that are done.
-    ensures trials { (seed count frames sessions : ℕ)
-        → requested (map string_bytes words.now) ≡ Some (Trial seed count frames sessions)
+    ensures trials { (seed count frames sessions numbers : ℕ)
+        → requested (map string_bytes words.now) ≡ Some (Trial seed count frames sessions numbers)
         → AtStatus (λ ending. TrialLeaves sessions seed count ending (D.told desk.old) (D.told desk.new)) result }
 
     // A check only reads. At 0 it said how many records there are for which the chip stands; at 4 the chip
@@ -515,10 +546,11 @@ pub fn top<D: Desk>(alloc: Global, words: &[String], desk: &mut D) -> u8
         ⊎ LacksUnits (requested (map string_bytes words.now)) (D.told desk.old)
         ⊎ (AsksOpened (requested (map string_bytes words.now)) × StrayCause (D.told desk.old))
         ⊎ (AsksAnew (requested (map string_bytes words.now)) × AnewCause (D.told desk.old))
+        ⊎ LacksRoom (requested (map string_bytes words.now)) (D.told desk.old)
         ⊎ ((requested (map string_bytes words.now) ≡ Some Check) × IsStray (D.told desk.old)) }
     // So over a chip of 5 to 1,028 places that tells what it holds: at 4 and 9 that stood for no records, or
-    // a number of 2^62 or more was among it, or a format was to spare so many that no unit is left; and
-    // never where it was formatted first.
+    // a number of 2^62 or more was among it, or more numbers were committed there than have room, or a format
+    // was to spare so many that no unit is left; and never where it was formatted first.
     ensures unfit { (result ≡ 4) ⊎ (result ≡ 9) → IsGeometry (D.told desk.old).places
         → EndsUnfit (requested (map string_bytes words.now)) (D.told desk.old) }
     ensures script { result ≡ 6 → Rose (D.told desk.old).beside.script_faults (D.told desk.new).beside.script_faults }

@@ -2,11 +2,12 @@
 //! overflow place, a committed number, whether a live record has it, how often each place was erased,
 //! and which are retired. Its faults are what the program notes, so they are tried there.
 ghost use Rattle.std.specs.Prelude.{◌≡◌, length, IfOk};
+ghost use Rattle.ipl_base.specs.declared.limits.TheConstants.{STATUS_NUMBERS};
 
 use crate::sectors::{Put, at, put_all};
 use chip_mem::MemChip;
 use chip_trait::Chip;
-use ipl_base::{Counter, Geometry, OutOfMemory, VERSION};
+use ipl_base::{Counter, Geometry, OutOfMemory, STATUS_NUMBERS, VERSION};
 use overflow::Overflow;
 use restart::{KeptNumbers, Scratch, format, read_tables};
 use sector_format::Head;
@@ -150,11 +151,12 @@ struct Tables {
 fn parts_for(alloc: Global, geometry: Geometry) -> Result<Parts, OutOfMemory>
     ensures directory { IfOk result (λ parts. length parts.directory.in_use ≡ geometry.places) }
     ensures overflow { IfOk result (λ parts. parts.overflow.places ≡ geometry.places) }
+    ensures most { IfOk result (λ parts. parts.status.most ≡ STATUS_NUMBERS) }
 {
     Ok(Parts {
         directory: Directory::new(alloc, geometry)?,
         overflow: Overflow::new(alloc, geometry)?,
-        status: Status::new(alloc, geometry)?,
+        status: Status::new(alloc, geometry, STATUS_NUMBERS)?,
         counter: Counter::at(0),
         active: Active::none(),
         scratch: MergeScratch::new(alloc)?,
@@ -170,7 +172,7 @@ fn opened(rt: &impl Abort, alloc: Global, chip: &mut MemChip) -> Result<Tables, 
     };
     let mut scratch = Scratch::new(alloc, geometry)?;
     let mut parts = parts_for(alloc, geometry)?;
-    let mut kept = KeptNumbers::new(alloc)?;
+    let mut kept = KeptNumbers::new(alloc, STATUS_NUMBERS)?;
     let fits = read_tables(chip, &mut scratch, &mut parts, &mut kept, true)?;
     assert!(rt; fits);
     assert!(rt; parts.directory.free_count() > 0);

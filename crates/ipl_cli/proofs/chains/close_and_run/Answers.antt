@@ -22,7 +22,7 @@ returns g c = λ m script on unrisen is.
     let begun = run_rests old mid m script on
     (subst (λ (n : ℕ). AtStatus (RunsOpened opens.0 old mid) n) first (c.top.ensures.opened opens.0 opens.1))
     c.top.ensures.counts (unrisen_first old mid new c.top-2.ensures.counts unrisen) in
-    let closes = subst (λ (a : AskedFor). ClosesAsAsked a old mid) c.requires.first.2 (c.top.ensures.closed first) in
+    let closes = subst (λ (a : AskedFor). ClosesAsAsked a old mid) c.requires.first.3 (c.top.ensures.closed first) in
     let then = c.top-2.ensures.opened c.requires.second.0 c.requires.second.1 in
     both_lawful old mid new m script on
     ((closes refl).clean on.history script on.steady on.left m on.rests on.apart) c.top.ensures.counts.places

@@ -12,14 +12,14 @@ use Rattle.ipl_cli.proofs.ChainLemmas.{run_rests, run_lawful, trial_rests, trial
 use Rattle.ipl_cli.proofs.chains.trial_and_run.Goals as goal
 
 pub returns-clause-rests : goal.returns-clause-rests
-returns-clause-rests g c = λ seed count frames first_sessions sessions script asked asks on unrisen is.
+returns-clause-rests g c = λ seed count frames first_sessions sessions numbers script asked asks on unrisen is.
     let old = g.D.Chip.told c.args.desk.now in
     let mid = g.D.Chip.told c.top.new.desk in
     let new = g.D.Chip.told c.top-2.new.desk in
     let first : c.top.result ≡ 0 = grind (arith, nat_tests, c.if-top-ne0.false) in
     let second = is_zero c.top-2.result is in
     let tried = subst (λ (n : ℕ). AtStatus (λ ending. TrialLeaves first_sessions seed count ending old mid) n) first
-    (c.top.ensures.trials seed count frames first_sessions asked) in
+    (c.top.ensures.trials seed count frames first_sessions numbers asked) in
     let still = unrisen_first old mid new c.top-2.ensures.counts unrisen in
     let begun = trial_rests old mid seed count script on (done_tried seed count old mid tried) c.top.ensures.counts still in
     let done = run_rests mid new (whole (state_after first_sessions old.places (commands_on old.places seed count)).map) script begun
@@ -30,7 +30,7 @@ returns-clause-rests g c = λ seed count frames first_sessions sessions script a
     (trial_keeps old mid seed count script on (done_tried seed count old mid tried) c.top.ensures.counts still) done
 
 pub returns-clause-lawful : goal.returns-clause-lawful
-returns-clause-lawful g c = λ seed count frames first_sessions sessions script asked asks before unrisen is.
+returns-clause-lawful g c = λ seed count frames first_sessions sessions numbers script asked asks before unrisen is.
     let on = before.on in
     let old = g.D.Chip.told c.args.desk.now in
     let mid = g.D.Chip.told c.top.new.desk in
@@ -38,7 +38,7 @@ returns-clause-lawful g c = λ seed count frames first_sessions sessions script 
     let first : c.top.result ≡ 0 = grind (arith, nat_tests, c.if-top-ne0.false) in
     let second = is_zero c.top-2.result is in
     let tried = subst (λ (n : ℕ). AtStatus (λ ending. TrialLeaves first_sessions seed count ending old mid) n) first
-    (c.top.ensures.trials seed count frames first_sessions asked) in
+    (c.top.ensures.trials seed count frames first_sessions numbers asked) in
     let still = unrisen_first old mid new c.top-2.ensures.counts unrisen in
     let begun = trial_lawful old mid seed count script on (done_tried seed count old mid tried) c.top.ensures.counts still before.told before.lawful in
     let done = run_lawful mid new (whole (state_after first_sessions old.places (commands_on old.places seed count)).map) script begun.on

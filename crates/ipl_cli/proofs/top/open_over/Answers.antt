@@ -1,5 +1,6 @@
 use Rattle.std.proofs.Common.{length, refl, ◌∙◌, ap}
 use Rattle.page_frames.specs.Pages.{tables_in}
+use Rattle.ipl_store.specs.Calls.{numbers_of}
 use Rattle.ipl_store.specs.declared.store.Store.{Store}
 use Rattle.ipl_cli.proofs.StartLemmas.{starts_over}
 use Rattle.ipl_cli.proofs.top.open_over.Goals as goal
@@ -11,6 +12,7 @@ returns-in-Ok g c = record {
       c.in-Ok.ensures.opens c.in-Ok.ensures.tries;
   frames = ap (λ (s : Store). s.frames) c.over.ensures ∙ c.open_chip.ensures.frames;
   sessions = ap (λ (s : Store). length s.transactions.sessions) c.over.ensures ∙ c.open_chip.ensures.sessions;
+  numbers = ap numbers_of c.over.ensures ∙ c.open_chip.ensures.numbers;
 }
 
 pub returns-in-Err : goal.returns-in-Err
@@ -20,8 +22,10 @@ returns-in-Err g c = record {
     end_is = refl;
     fits = c.requires.sound.made.geometry;
     tables = tables_in c.open_chip.new.self.transactions.pages;
+    room = c.open_chip.ensures.numbers;
     tries = c.in-Err.ensures.tries;
   };
   frames = tt;
   sessions = tt;
+  numbers = tt;
 }

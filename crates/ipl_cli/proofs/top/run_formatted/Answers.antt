@@ -26,7 +26,7 @@ pub returns-in_err-store-clause-cause : goal.returns-in_err-store-clause-cause
 returns-in_err-store-clause-cause g c =
     let e = err_from_is_err_and c.from_residual.result c.from_residual.ensures.1 in
     rw (e.1, e.2) (not_started_cause (g.D.Chip.told c.args.desk.now)
-    (g.D.Chip.told c.start_formatted.new.desk) c.args.frames c.args.sessions c.args.closes c.in_err-store.field-0.0
+    (g.D.Chip.told c.start_formatted.new.desk) c.args.frames c.args.sessions c.args.numbers c.args.closes c.in_err-store.field-0.0
     c.in_err-store.ensures.stops)
 
 pub returns-in_err-run_over-clause-leaves : goal.returns-in_err-run_over-clause-leaves
@@ -48,7 +48,7 @@ returns-in_err-run_over-clause-cause g c =
     rw (e.1, e.2) (formatted_cause (g.D.Chip.told c.args.desk.now)
     (g.D.Chip.told c.start_formatted.new.desk) c.in_ok-store.store c.in_ok-store.ensures.starts
     c.run_over.new.store (g.D.Chip.told c.run_over.new.desk)
-    c.args.frames c.args.sessions c.args.closes (Err c.in_err-run_over.field-0.0) c.in_err-run_over.ensures.runs)
+    c.args.frames c.args.sessions c.args.numbers c.args.closes (Err c.in_err-run_over.field-0.0) c.in_err-run_over.ensures.runs)
 
 pub returns-clause-leaves : goal.returns-clause-leaves
 returns-clause-leaves g c =
@@ -104,6 +104,7 @@ returns-clause-framed g c = record {
   store = c.in_ok-store.store;
   frames_are = c.in_ok-store.ensures.frames;
   sessions_are = c.in_ok-store.ensures.sessions;
+  numbers_are = c.in_ok-store.ensures.numbers;
   started = g.D.Chip.told c.start_formatted.new.desk;
   starts = c.in_ok-store.ensures.starts;
   then = c.run_over.new.store;

@@ -36,7 +36,7 @@ returns-in_err-run_over-clause-cause g c =
     rw (e.1, e.2) (opened_cause (g.D.Chip.told c.args.desk.now)
     (g.D.Chip.told c.start_opened.new.desk) c.in_ok-store.store c.in_ok-store.ensures.starts
     c.run_over.new.store (g.D.Chip.told c.run_over.new.desk)
-    c.args.frames c.args.sessions c.args.closes (Err c.in_err-run_over.field-0.0)
+    c.args.frames c.args.sessions c.args.numbers c.args.closes (Err c.in_err-run_over.field-0.0)
     c.in_err-run_over.ensures.runs)
 
 pub returns-clause-leaves : goal.returns-clause-leaves
@@ -88,6 +88,7 @@ returns-clause-framed g c = record {
   store = c.in_ok-store.store;
   frames_are = c.in_ok-store.ensures.frames;
   sessions_are = c.in_ok-store.ensures.sessions;
+  numbers_are = c.in_ok-store.ensures.numbers;
   started = g.D.Chip.told c.start_opened.new.desk;
   starts = c.in_ok-store.ensures.starts;
   then = c.run_over.new.store;

@@ -1,7 +1,7 @@
 use Rattle.std.proofs.Common.{ℕ, Err, inl, inr, refl, sym, ◌∙◌, subst}
 use Rattle.std.proofs.lemmas.Result.{err_from_is_err_and}
 use Rattle.chip_trait.proofs.CountsLemmas.{counts_then}
-use Rattle.ipl_store.specs.Calls.{IsSound}
+use Rattle.ipl_store.specs.Calls.{numbers_of, IsSound}
 use Rattle.ipl_cli.specs.Runs.{MakesStore}
 use Rattle.ipl_cli.proofs.top.start_formatted.Goals as goal
 
@@ -41,6 +41,7 @@ returns-in_err-started-clause-stops g c =
     rw (e.1, e.2) (inr (inr (
       g.D.Chip.told c.format_first.new.desk,
       c.in_ok-format_first.ensures.formats,
+      numbers_of c.in_ok-store.store,
       c.in_err-started.ensures.opens,
     )))
 
@@ -66,6 +67,9 @@ returns-clause-counts g c =
 
 pub returns-clause-frames : goal.returns-clause-frames
 returns-clause-frames g c = c.in_ok-started.ensures.frames ∙ c.in_ok-store.ensures.frames
+
+pub returns-clause-numbers : goal.returns-clause-numbers
+returns-clause-numbers g c = c.in_ok-started.ensures.numbers ∙ c.in_ok-store.ensures.numbers
 
 pub returns-clause-sessions : goal.returns-clause-sessions
 returns-clause-sessions g c = c.in_ok-started.ensures.sessions ∙ c.in_ok-store.ensures.sessions

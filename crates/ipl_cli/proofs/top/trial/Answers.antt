@@ -27,7 +27,7 @@ pub returns-in_err-store-clause-cause : goal.returns-in_err-store-clause-cause
 returns-in_err-store-clause-cause g c =
     let e = err_from_is_err_and c.from_residual.result c.from_residual.ensures.1 in
     rw (e.1, e.2) (trial_not_started_cause (g.D.Chip.told c.args.desk.now)
-    (g.D.Chip.told c.start_formatted.new.desk) c.args.seed c.args.count c.args.frames c.args.sessions
+    (g.D.Chip.told c.start_formatted.new.desk) c.args.seed c.args.count c.args.frames c.args.sessions c.args.numbers
     c.in_err-store.field-0.0 c.in_err-store.ensures.stops)
 
 pub returns-in_err-trial_over-clause-leaves : goal.returns-in_err-trial_over-clause-leaves
@@ -49,7 +49,7 @@ returns-in_err-trial_over-clause-cause g c =
     rw (e.1, e.2) (tried_cause (g.D.Chip.told c.args.desk.now)
     (g.D.Chip.told c.start_formatted.new.desk) c.in_ok-store.store c.in_ok-store.ensures.starts
     c.trial_over.new.store (g.D.Chip.told c.trial_over.new.desk)
-    c.args.seed c.args.count c.args.frames c.args.sessions (Err c.in_err-trial_over.field-0.0)
+    c.args.seed c.args.count c.args.frames c.args.sessions c.args.numbers (Err c.in_err-trial_over.field-0.0)
     c.in_err-trial_over.ensures.tries)
 
 pub returns-clause-leaves : goal.returns-clause-leaves
@@ -108,6 +108,7 @@ returns-clause-framed g c = record {
   store = c.in_ok-store.store;
   frames_are = c.in_ok-store.ensures.frames;
   sessions_are = c.in_ok-store.ensures.sessions;
+  numbers_are = c.in_ok-store.ensures.numbers;
   started = g.D.Chip.told c.start_formatted.new.desk;
   starts = c.in_ok-store.ensures.starts;
   then = c.trial_over.new.store;
