@@ -7,9 +7,10 @@ use crate::answer::say;
 use crate::line::{Command, parse};
 use anyhow::{Result, bail};
 use chip_trait::Chip;
-use ipl_base::{SESSIONS, Value};
+use ipl_base::{Geometry, SESSIONS, STATUS_NUMBERS, Value};
 use ipl_keys::{KeyFault, Keys};
 use ipl_model::Reply;
+use ipl_store::Memory;
 use std::alloc::Global;
 use std::io::Write;
 
@@ -30,9 +31,13 @@ pub fn serve<C: Chip + Drop>(rt: &HostRuntime, alloc: Global, mut chip: C) -> Re
 fn opened<C: Chip>(alloc: Global, chip: &mut C) -> Result<Keys>
     ensures { IfOk result (λ keys. IsSound (C.told chip.new).places keys.store) }
 {
-    match Keys::open(alloc, chip, FRAMES, SESSIONS) {
+    let Some(geometry) = Geometry::of(chip.units()) else {
+        bail!("geometry");
+    };
+    let memory = Memory::new(alloc, geometry, FRAMES, SESSIONS, STATUS_NUMBERS as u32)?;
+    match Keys::open(memory, chip) {
         Ok(keys) => Ok(keys),
-        Err(fault) => bail!("{fault}"),
+        Err(unopened) => bail!("{}", unopened.fault),
     }
 }
 

@@ -2,15 +2,17 @@
 ghost use Rattle.std.specs.Prelude.{IfOk};
 ghost use Rattle.ipl_cli.specs.MemDesk.{desk_told};
 ghost use Rattle.ipl_store.specs.Calls.{IsSound};
+ghost use Rattle.ipl_store.specs.Memories.{IsMemory};
 ghost use Rattle.lab.specs.Suits.{StaysSound, SuitsDesk};
 
 use crate::answers::{READ_FAILED, WRITE_FAILED, done_line, found_line, opened_line, say};
 use crate::words::{number, parted, words_of};
 use anyhow::{Result, bail, ensure};
-use ipl_base::{SESSIONS, StoreFault};
+use chip_trait::Chip;
+use ipl_base::{Geometry, SESSIONS, STATUS_NUMBERS, StoreFault};
 use ipl_cli::MemDesk;
 use ipl_model::{Command, Line};
-use ipl_store::Store;
+use ipl_store::{Memory, Store};
 use script_text::parse;
 use std::alloc::Global;
 
@@ -144,12 +146,25 @@ fn turn(alloc: Global, mut store: Store, desk: &mut MemDesk, line: &str) -> Resu
     Ok((store, failed))
 }
 
+/// Memory for a chip of so many places, with so many frames.
+pub(crate) fn memory_of(alloc: Global, frames: u32, places: u32) -> Result<Memory>
+    ensures { IfOk result IsMemory }
+{
+    ensure!(2 <= frames && frames <= 64, "no frames");
+    let Some(geometry) = Geometry::of(places) else {
+        bail!("geometry");
+    };
+    Ok(Memory::new(alloc, geometry, frames, SESSIONS, STATUS_NUMBERS as u32)?)
+}
+
 /// The store of a desk's chip, which is opened with so many frames.
 fn store_of(alloc: Global, frames: u32, desk: &mut MemDesk) -> Result<Store>
     ensures { IfOk result (λ store. SuitsDesk desk.new store) }
 {
-    ensure!(2 <= frames && frames <= 64, "no frames");
-    Ok(Store::open(alloc, desk, frames, SESSIONS)?)
+    match Store::open(memory_of(alloc, frames, desk.units())?, desk) {
+        Ok(store) => Ok(store),
+        Err(unopened) => bail!("{}", unopened.fault),
+    }
 }
 
 /// Makes the calls of a script on a store with so many frames, one a line; 3 where a write failed, or 0.

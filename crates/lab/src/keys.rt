@@ -5,10 +5,11 @@ ghost use Rattle.ipl_store.specs.Calls.{IsSound};
 ghost use Rattle.lab.specs.Suits.{StaysSound, SuitsDesk};
 
 use crate::answers::{bytes_line, key_line, say};
+use crate::calls::memory_of;
 use crate::sectors::bytes_of;
 use crate::words::{number, parted, text_of, words_of};
-use anyhow::{Result, bail, ensure};
-use ipl_base::SESSIONS;
+use anyhow::{Result, bail};
+use chip_trait::Chip;
 use ipl_cli::MemDesk;
 use ipl_keys::{KeyFault, Keys};
 use std::alloc::Global;
@@ -91,8 +92,10 @@ fn serve(alloc: Global, keys: &mut Keys, desk: &mut MemDesk, line: &str) -> Resu
 fn keys_of(alloc: Global, frames: u32, desk: &mut MemDesk) -> Result<Keys>
     ensures { IfOk result (λ keys. SuitsDesk desk.new keys.store) }
 {
-    ensure!(2 <= frames && frames <= 64, "no frames");
-    Ok(Keys::open(alloc, desk, frames, SESSIONS)?)
+    match Keys::open(memory_of(alloc, frames, desk.units())?, desk) {
+        Ok(keys) => Ok(keys),
+        Err(unopened) => bail!("{}", unopened.fault),
+    }
 }
 
 /// Makes the calls of a script on keys, one a line, with so many frames.

@@ -29,15 +29,17 @@ fn main(rt: HostRuntime) -> Result<()> {
 
 /// Opens the chip, and takes lines until the input ends; at a line `shutdown` the store is closed in order, and opened again.
 fn keep<C: Chip>(rt: &HostRuntime, chip: &mut C) -> Result<()> {
-    let mut meters = Meters::open(rt.alloc(), chip)?;
+    let memory = Meters::memory(rt.alloc(), chip.units())?;
+    let mut meters = Meters::open(memory, chip)?;
     let mut number = 0u64;
     for line in rt.lines(rt.alloc()) {
         number = number.saturating_add(1);
         let line = line?;
         if line.as_str() == "shutdown" {
-            meters.close(chip)?;
+            let memory = meters.close(chip)?;
             println!(rt; "line {number}: shut down")?;
-            meters = Meters::open(rt.alloc(), chip)?;
+            // It is opened again in the memory that it had.
+            meters = Meters::open(memory, chip)?;
             continue;
         }
         let taken = take(&mut meters, chip, line.as_str());
@@ -74,7 +76,8 @@ fn tell(rt: &HostRuntime, number: u64, taken: Result<Option<u32>, KeyFault>) -> 
 
 /// Opens the chip, says what it has of each meter that the command line names, and closes it.
 fn report<C: Chip>(rt: &HostRuntime, chip: &mut C) -> Result<()> {
-    let mut meters = Meters::open(rt.alloc(), chip)?;
+    let memory = Meters::memory(rt.alloc(), chip.units())?;
+    let mut meters = Meters::open(memory, chip)?;
     for meter in env::args(rt)?.skip(1) {
         say(rt, &mut meters, chip, meter.as_str())?;
     }

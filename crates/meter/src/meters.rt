@@ -1,12 +1,27 @@
 //! The last reading of each meter, over a chip.
 ghost use Rattle.std.specs.Prelude.{IfOk};
+ghost use Rattle.ipl_store.specs.Calls.{IsSound};
+ghost use Rattle.ipl_store.specs.Memories.{IsMemory};
 ghost use Rattle.meter.specs.Sound.{IsSoundFor};
 
 use crate::reading::Reading;
+use anyhow::bail;
 use chip_trait::Chip;
-use ipl_base::SESSIONS;
+use ipl_base::Geometry;
 use ipl_keys::{KeyFault, Keys};
+use ipl_store::Memory;
 use std::alloc::Global;
+
+/// The keys of a chip that is opened in memory that is lent.
+fn opened<C: Chip>(memory: Memory, chip: &mut C) -> anyhow::Result<Keys>
+    requires { IsMemory memory }
+    ensures { IfOk result (λ keys. IsSound (C.told chip.new).places keys.store) }
+{
+    match Keys::open(memory, chip) {
+        Ok(keys) => Ok(keys),
+        Err(unopened) => bail!("{}", unopened.fault),
+    }
+}
 
 /// A store of keys, one for each meter, with session 0 open; and how many readings wait for a commit.
 #[derive(Drop)]
@@ -16,11 +31,23 @@ pub struct Meters {
 }
 
 impl Meters {
-    /// Opens a chip, with four of its pages in memory: what was committed is there, and nothing else.
-    pub fn open<C: Chip>(alloc: Global, chip: &mut C) -> anyhow::Result<Meters>
+    /// Memory for a chip of so many places: for four of its pages, one session, and as many committed
+    /// numbers as a board of 128 KB has room for.
+    pub fn memory(alloc: Global, places: u32) -> anyhow::Result<Memory>
+        ensures { IfOk result IsMemory }
+    {
+        let Some(geometry) = Geometry::of(places) else {
+            bail!("no number of places");
+        };
+        Ok(Memory::new(alloc, geometry, 4, 1, 1_500)?)
+    }
+
+    /// Opens a chip in memory that is lent: what was committed is there, and nothing else.
+    pub fn open<C: Chip>(memory: Memory, chip: &mut C) -> anyhow::Result<Meters>
+        requires { IsMemory memory }
         ensures { IfOk result (λ meters. IsSoundFor (C.told chip.new) meters) }
     {
-        let mut keys = Keys::open(alloc, chip, 4, SESSIONS)?;
+        let mut keys = opened(memory, chip)?;
         keys.begin(chip, 0)?;
         Ok(Meters { keys, pending: 0 })
     }
@@ -57,11 +84,13 @@ impl Meters {
         Ok(found.and_then(|bytes| Reading::of(bytes)))
     }
 
-    /// Commits what was put since the last commit, and closes the store in order.
-    pub fn close<C: Chip>(mut self, chip: &mut C) -> Result<(), KeyFault>
+    /// Commits what was put since the last commit, closes the store in order, and gives its memory back.
+    pub fn close<C: Chip>(mut self, chip: &mut C) -> Result<Memory, KeyFault>
         requires { IsSoundFor (C.told chip.old) self }
+        ensures { IfOk result IsMemory }
     {
         self.keys.commit(chip, 0)?;
-        self.keys.close(chip)
+        self.keys.close(chip)?;
+        Ok(self.keys.into_memory())
     }
 }

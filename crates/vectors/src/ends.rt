@@ -31,6 +31,7 @@ fn image_fault(words: &[&str]) -> Result<ImageFault> {
         ["missing", unit] => ImageFault::Missing(number(*unit)?),
         ["spent"] => ImageFault::Spent,
         ["spare", places] => ImageFault::NoSpare(number(*places)?),
+        ["numbers"] => ImageFault::TooManyNumbers,
         faults => ImageFault::Chip(chip_fault(faults)?),
     })
 }

@@ -39,21 +39,25 @@ fn request_text(alloc: Global, request: Request) -> Result<String> {
         Request::Run {
             frames,
             sessions,
+            numbers,
             format,
             close,
         } => {
             let how = if format { " format" } else { "" };
             let then = if close { " close" } else { "" };
-            Ok(format!(in alloc; "run frames {frames} sessions {sessions}{how}{then}")?)
+            let room = format!(in alloc; "sessions {sessions} numbers {numbers}")?;
+            Ok(format!(in alloc; "run frames {frames} {room}{how}{then}")?)
         }
         Request::Trial {
             seed,
             count,
             frames,
             sessions,
+            numbers,
         } => {
+            let room = format!(in alloc; "sessions {sessions} numbers {numbers}")?;
             let how = format!(in alloc; "seed {seed} count {count}")?;
-            Ok(format!(in alloc; "trial {how} frames {frames} sessions {sessions}")?)
+            Ok(format!(in alloc; "trial {how} frames {frames} {room}")?)
         }
     }
 }

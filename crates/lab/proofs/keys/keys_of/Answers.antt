@@ -1,8 +1,7 @@
 use Rattle.lab.proofs.SuitsLemmas.{suits_of}
 use Rattle.lab.proofs.keys.keys_of.Goals as goal
 
-pub returns-2 : goal.returns-2
-returns-2 c =
-    let opened = c.in_ok-open.ensures.opens in
-    suits_of c.args.desk.now c.open.new.chip c.in_ok-open.field-0.store opened.0
-    opened.2.accounts.counts.places
+pub returns : goal.returns
+returns c =
+    let opened = c.in-Ok.ensures.opens in
+    suits_of c.args.desk.now c.open.new.chip c.in-Ok.keys.store opened.1 opened.4.accounts.counts.places
