@@ -29,7 +29,8 @@ struct ipl_request {
 
 /* What a call asks. What it reads of the request stands beside it, and then what it answers there. */
 enum ipl_op {
-    /* Of an opening, which has no number of its own: session: how many there are. */
+    /* Of an opening, which has no number of its own: session: how many there are; name: how many committed numbers have
+     * room. */
     IPL_OP_BEGIN = 1,      /* session */
     IPL_OP_GET = 2,        /* session; name or key, key_len: len, value */
     IPL_OP_SHARE = 3,      /* session; name: len, value; or key, key_len, and nothing comes back */
@@ -58,7 +59,7 @@ enum { IPL_ENGINE_ALIGNMENT = 16 };
 
 /* How many bytes an engine wants, with all that it takes: for an opening and what follows it, for a check,
  * for a format. The config's numbers are in their ranges, those that are looked at: of a check the places alone.
- * An opening wants the most, a format the least. */
+ * A format wants the least; a check has room for 15,300 numbers, whatever the config says. */
 IPL_ENGINE size_t ipl_engine_memory(const struct ipl_config *config);
 IPL_ENGINE size_t ipl_engine_check_memory(const struct ipl_config *config);
 IPL_ENGINE size_t ipl_engine_format_memory(void);

@@ -55,6 +55,7 @@ const char *ipl_text(enum ipl_answer answer) {
     case IPL_BAD_PLACES: return "not 5 to 1,028 places";
     case IPL_BAD_SPARES: return "more than 64 spare places, or no unit is left";
     case IPL_BAD_SESSIONS: return "not 1 to 32 sessions";
+    case IPL_BAD_NUMBERS: return "not room for 120 to 15,300 committed numbers";
     case IPL_READ_FAULT: return "a read failed";
     case IPL_DAMAGED: return "a sector of a page is damaged";
     case IPL_MALFORMED: return "a page is malformed";
@@ -77,6 +78,7 @@ const char *ipl_text(enum ipl_answer answer) {
     case IPL_PART_MALFORMED: return "a sector of the part is malformed";
     case IPL_PART_WORN_OUT: return "more places are worn than are spare, and nothing is open";
     case IPL_PART_SPENT: return "the numbers of calls are used up, and nothing is open";
+    case IPL_MANY_NUMBERS: return "more committed numbers than there is room for in memory";
     default: return "no answer of this library";
     }
 }
@@ -122,6 +124,7 @@ static enum ipl_answer ipl_look_at(const struct ipl_config *config, int opens, i
     if (config->places < IPL_PLACES_LEAST || config->places > IPL_PLACES_MOST) return IPL_BAD_PLACES;
     if (opens && (config->frames < IPL_FRAMES_LEAST || config->frames > IPL_FRAMES_MOST)) return IPL_BAD_FRAMES;
     if (opens && (config->sessions < 1 || config->sessions > IPL_SESSIONS)) return IPL_BAD_SESSIONS;
+    if (opens && (config->numbers < IPL_NUMBERS_LEAST || config->numbers > IPL_NUMBERS_MOST)) return IPL_BAD_NUMBERS;
     if (has_spares && (config->spares > IPL_SPARES_MOST || config->spares > config->places - IPL_PLACES_LEAST))
         return IPL_BAD_SPARES;
     return IPL_OK;
@@ -234,6 +237,7 @@ static enum ipl_answer ipl_start(struct ipl *s, const struct ipl_driver *driver,
     s->facts.places = config->places;
     s->facts.frames = config->frames;
     s->facts.sessions = config->sessions;
+    s->facts.room = config->numbers;
     answer = ipl_list(s);
     if (answer != IPL_OK) return answer;
     s->self = s;
@@ -290,7 +294,8 @@ enum { IPL_NO_UNITS = 4 };
 
 /* Opens the part in the store's memory, also where that had an engine before. */
 static enum ipl_answer ipl_open_part(struct ipl *s) {
-    const struct ipl_config config = IPL_CONFIG_OF(s->facts.places, s->facts.frames, 0, s->facts.sessions);
+    const struct ipl_config config =
+        IPL_CONFIG_WITH(s->facts.places, s->facts.frames, 0, s->facts.sessions, s->facts.room);
     enum ipl_answer answer;
     struct ipl_request *r;
     ipl_raise(s);

@@ -30,8 +30,9 @@ enum { IPL_HEAD = (sizeof(struct ipl_engine) + IPL_BLOCK - 1) / IPL_BLOCK * IPL_
 enum { IPL_OPEN_BLOCKS = 22, IPL_CHECK_BLOCKS = 17 };
 
 size_t ipl_engine_memory(const struct ipl_config *config) {
-    return (size_t)IPL_HEAD + 154370 + (size_t)504 * config->places + (size_t)16728 * config->frames
-           + (size_t)2600 * config->sessions + IPL_OPEN_BLOCKS * IPL_BLOCK;
+    return (size_t)IPL_HEAD + 28160 + (size_t)504 * config->places + (size_t)16728 * config->frames
+           + (size_t)2600 * config->sessions + (size_t)8 * config->numbers + 2 * (((size_t)config->numbers + 7) / 8)
+           + IPL_OPEN_BLOCKS * IPL_BLOCK;
 }
 
 size_t ipl_engine_check_memory(const struct ipl_config *config) {
@@ -129,6 +130,7 @@ uint32_t ipl_engine_open(struct ipl_engine *e, enum ipl_engine_kind kind, const 
     struct ipl_engine *outer = taking;
     uint32_t answer;
     e->request.session = config->sessions;
+    e->request.name = config->numbers;
     taking = e;
     if (kind == IPL_ENGINE_KEYS)
         answer = ipl_port_open_keys(part_of(e), config->places, config->frames, &e->request, &e->handle.at);

@@ -68,10 +68,10 @@ static ipl_u32 ipl_to_ipl_nand_read(ipl_u8 *const m, ipl_u64 part, ipl_u32 place
 /* An engine in the memory: its head, stack, request and slack, and no heap yet. */
 static size_t ipl_least_memory(void) { return (size_t)IPL_HEAD + IPL_HEAP + IPL_SLACK; }
 
-/* What an opening and a check take of the heap: tests/memory.c asks for many numbers of places, frames and sessions. */
+/* What an opening and a check take of the heap: tests/memory.c tries many configs. */
 IPL_ENGINE size_t ipl_engine_memory(const struct ipl_config *config) {
-    return ipl_least_memory() + 154408 + 504 * (size_t)config->places + 16728 * (size_t)config->frames
-           + 2600 * (size_t)config->sessions;
+    return ipl_least_memory() + 28182 + 504 * (size_t)config->places + 16728 * (size_t)config->frames
+           + 2600 * (size_t)config->sessions + 8 * (size_t)config->numbers + 2 * (((size_t)config->numbers + 7) / 8);
 }
 
 IPL_ENGINE size_t ipl_engine_check_memory(const struct ipl_config *config) {
@@ -171,6 +171,7 @@ IPL_ENGINE uint32_t ipl_engine_check(struct ipl_engine *e, uint32_t places) { re
 
 IPL_ENGINE uint32_t ipl_engine_open(struct ipl_engine *e, enum ipl_engine_kind kind, const struct ipl_config *config) {
     ipl_engine_request(e)->session = config->sessions;
+    ipl_engine_request(e)->name = config->numbers;
     return ipl_run(e, kind == IPL_ENGINE_KEYS ? IPL_DO_KEYS : IPL_DO_RECORDS, config->places, config->frames);
 }
 

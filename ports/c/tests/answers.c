@@ -1,5 +1,5 @@
-/* Each answer by itself, over two parts at once: how many units, frames and records there are, each fault of
- * a get, batches of no session and of one. Of the part that isn't asked nothing changes. usage: answers */
+/* Each answer by itself, over two parts at once: how many units, frames and records there are, room for committed
+ * numbers, each fault of a get, batches of no session and of one. Of the part that isn't asked nothing changes. usage: answers */
 #include "store.h"
 #include <stdio.h>
 #include <stdlib.h>
@@ -17,6 +17,8 @@ static void must(int holds, const char *what) {
     fprintf(stderr, "answers: %s (%u %u %08x %08x)\n", what, d[0], d[1], d[2], d[3]);
     exit(1);
 }
+
+enum { COMMITS = 1000, SOME_NAMES = 700 };
 
 static void opens(uint32_t frames) { must(part_open(store, PART, PLACES, frames) == IPL_OK, "an opening"); }
 
@@ -159,6 +161,106 @@ static void try_batches(void) {
     ipl_close(store);
 }
 
+/* ---- room for committed numbers */
+
+static struct ipl_config with_room_for(uint32_t numbers) {
+    struct ipl_config config = IPL_CONFIG_WITH(PLACES, 4, 0, 1, numbers);
+    return config;
+}
+
+static enum ipl_answer open_with(uint32_t numbers) {
+    struct ipl_config config = with_room_for(numbers);
+    return part_open_with(store, PART, &config);
+}
+
+static void facts_say(uint32_t numbers) {
+    struct ipl_facts facts;
+    must(ipl_state(store, &facts) == IPL_OK && facts.room == numbers && facts.sessions == 1, "how many have room");
+}
+
+/* A part on which so many numbers are committed: each commit of a session has one, and none makes a new status block. */
+static void commit_numbers(uint32_t count) {
+    struct ipl_facts facts;
+    must(part_format(PART, PLACES, 0, NULL) == IPL_OK && open_with(IPL_NUMBERS_MOST) == IPL_OK, "an opening with all");
+    facts_say(IPL_NUMBERS_MOST);
+    must(ipl_state(store, &facts) == IPL_OK && facts.clean_commits >= count, "a commit sector for each");
+    for (uint32_t i = 0; i < count; i++) writes(store, i, 1);
+    must(ipl_close(store) == IPL_OK, "a close");
+}
+
+/* Where one number more is committed than has room an opening answers that, and has only read. */
+static void try_many_numbers(void) {
+    size_t size = (size_t)PLACES * SECTORS * SECTOR;
+    uint8_t *old = malloc(size);
+    static struct ipl_keys keys;
+    struct ipl_config few = with_room_for(IPL_NUMBERS_LEAST);
+    must(old != NULL, "room");
+    commit_numbers(IPL_NUMBERS_LEAST + 1);
+    memcpy(old, part_sector(PART, 0, 0), size);
+    struct part_counts before = part_counts(PART), after;
+    must(open_with(IPL_NUMBERS_LEAST) == IPL_MANY_NUMBERS && ipl_detail(store)[0] == 0, "a number more than have room");
+    must(!is_open(store), "nothing is open");
+    must(part_open_keys_with(&keys, PART, &few) == IPL_MANY_NUMBERS, "nor by keys");
+    counts(IPL_NUMBERS_LEAST + 1);
+    after = part_counts(PART);
+    must(after.calls[PROGRAM] == before.calls[PROGRAM] && after.calls[ERASE] == before.calls[ERASE], "nothing is written");
+    must(memcmp(old, part_sector(PART, 0, 0), size) == 0, "no byte of the part has changed");
+    must(open_with(IPL_NUMBERS_LEAST + 1) == IPL_OK, "room for each of them");
+    facts_say(IPL_NUMBERS_LEAST + 1);
+    for (uint32_t name = 0; name <= IPL_NUMBERS_LEAST; name++) must(has(store, name), "its record");
+    ipl_close(store);
+    commit_numbers(IPL_NUMBERS_LEAST);
+    must(open_with(IPL_NUMBERS_LEAST) == IPL_OK && ipl_reopen(store) == IPL_OK, "as many as have room");
+    facts_say(IPL_NUMBERS_LEAST);
+    ipl_close(store);
+    counts(IPL_NUMBERS_LEAST);
+    free(old);
+}
+
+static uint32_t some_name(uint32_t i) { return i % SOME_NAMES * 37 % 4800; }
+
+/* Each name has what its last commit put. */
+static void holds_commits(void) {
+    for (uint32_t i = COMMITS - SOME_NAMES; i < COMMITS; i++) {
+        uint32_t found, len;
+        must(ipl_committed(store, some_name(i), &found, sizeof found, &len) == IPL_OK, "a record");
+        must(len == sizeof found && found == i, "what was put there last");
+    }
+}
+
+/* A thousand commits of a put each, with room for so many numbers; then all records, also behind a close and an opening.
+ * Answers how many of the commits made a new status block. */
+static uint32_t renewals_with(uint32_t numbers, uint64_t *erases) {
+    struct ipl_facts facts;
+    uint32_t renewals = 0;
+    must(part_format(PART, PLACES, 0, NULL) == IPL_OK && open_with(numbers) == IPL_OK, "an opening");
+    uint64_t before = part_counts(PART).calls[ERASE];
+    for (uint32_t i = 0; i < COMMITS; i++) {
+        must(ipl_begin(store, 0) == IPL_OK && ipl_put(store, 0, some_name(i), &i, sizeof i) == IPL_OK, "a put");
+        must(ipl_state(store, &facts) == IPL_OK, "what is left");
+        renewals += facts.clean_commits == 0;
+        must(ipl_commit(store, 0) == IPL_OK, "a commit");
+    }
+    *erases = part_counts(PART).calls[ERASE] - before;
+    holds_commits();
+    must(ipl_close(store) == IPL_OK && open_with(numbers) == IPL_OK, "an opening behind it");
+    holds_commits();
+    ipl_close(store);
+    counts(SOME_NAMES);
+    return renewals;
+}
+
+/* A new status block keeps 60 numbers at most where 120 have room, and one is made where fewer than 60 more have: so at least
+ * each 62nd commit makes one. Where all have room it keeps none in 191 of its sectors, so at most each 192nd does. */
+static void try_few_numbers(void) {
+    uint64_t few_erases, most_erases;
+    uint32_t few = renewals_with(IPL_NUMBERS_LEAST, &few_erases), most = renewals_with(IPL_NUMBERS_MOST, &most_erases);
+    must(few >= (COMMITS - 61) / 61 && most <= COMMITS / 191, "when a new status block comes");
+    must(few_erases > most_erases && few_erases >= few, "each of which is an erase");
+    printf("answers: a thousand commits with room for 120 numbers make %u status blocks and %u erases, with room for all %u and %u\n",
+           (unsigned)few, (unsigned)few_erases, (unsigned)most, (unsigned)most_erases);
+}
+
 int main(void) {
     any_begin(1);
     part_new(OTHER, PLACES);
@@ -173,6 +275,8 @@ int main(void) {
     try_reads();
     try_down();
     try_batches();
+    try_many_numbers();
+    try_few_numbers();
     after = part_counts(OTHER);
     must(memcmp(&before, &after, sizeof before) == 0, "another part is asked nothing");
     before = part_counts(PART);
@@ -183,6 +287,6 @@ int main(void) {
     ipl_close(&other);
     part_free(OTHER);
     part_free(PART);
-    printf("answers: units, frames, records, faults of a get and batches are as they must be, over two parts\n");
+    printf("answers: units, frames, records, faults of a get, batches and numbers are as they must be, over two parts\n");
     return 0;
 }

@@ -15,12 +15,14 @@ struct ipl_engine {
 };
 
 static struct ipl_request asked; /* by the last call */
-static uint32_t given[4], calls, raises;
+static uint32_t given[5], calls, raises;
 static uint32_t answer, found_len; /* what the next call answers, and how many bytes it finds */
 static const uint32_t unit_count = 5;
 static int is_broken;            /* answers another number to one session */
 
-size_t ipl_engine_memory(const struct ipl_config *it) { return ENGINE_BYTES + it->places + 16 * (size_t)it->frames + 64 * (size_t)it->sessions; }
+size_t ipl_engine_memory(const struct ipl_config *it) {
+    return ENGINE_BYTES + it->places + 16 * (size_t)it->frames + 64 * (size_t)it->sessions + it->numbers;
+}
 size_t ipl_engine_check_memory(const struct ipl_config *it) { return ENGINE_BYTES + it->places; }
 size_t ipl_engine_format_memory(void) { return ENGINE_BYTES; }
 
@@ -58,6 +60,7 @@ uint32_t ipl_engine_check(struct ipl_engine *e, uint32_t places) {
 
 uint32_t ipl_engine_open(struct ipl_engine *e, enum ipl_engine_kind kind, const struct ipl_config *it) {
     given[3] = it->sessions;
+    given[4] = it->numbers;
     return keep(e, it->places, it->frames, kind);
 }
 
@@ -81,7 +84,7 @@ static int barrier_never(void *c) { (void)c; return never(); }
 static char first_part, second_part;
 static const struct ipl_driver first = {&first_part, read_never, program_never, erase_never, barrier_never};
 static const struct ipl_driver second = {&second_part, read_never, program_never, erase_never, barrier_never};
-static const struct ipl_config config = IPL_CONFIG_OF(7, 8, 2, 20);
+static const struct ipl_config config = IPL_CONFIG_WITH(7, 8, 2, 20, 500);
 static uint8_t first_memory[3000], second_memory[3000];
 
 static void must(int holds, const char *what) {
@@ -200,7 +203,8 @@ static void try_parts(struct ipl *s, struct ipl_keys *k) {
     must(records == 33 && ipl_detail(s)[0] == 0, "how many records");
     must(ipl_begin(s, 0) == IPL_NO_STORE && calls == 0, "a check leaves nothing open");
     must(ipl_open(s, &first, &config, first_memory, sizeof first_memory) == IPL_OK, "an opening");
-    must(given[0] == 7 && given[1] == 8 && given[2] == IPL_ENGINE_RECORDS && given[3] == 20, "what an opening is asked");
+    must(given[0] == 7 && given[1] == 8 && given[2] == IPL_ENGINE_RECORDS, "what an opening is asked");
+    must(given[3] == 20 && given[4] == 500, "of how many sessions and numbers");
     must(ipl_unit_count(s) == unit_count, "how many units");
     must(ipl_keys_open(k, &second, &config, second_memory, sizeof second_memory) == IPL_OK, "an opening for keys");
     must(given[2] == IPL_ENGINE_KEYS && ipl_keys_unit_count(k) == unit_count, "which is of keys");
@@ -213,7 +217,7 @@ static void reopen(struct ipl *s) {
     must(ipl_reopen(s) == IPL_PART_UNREAD && ipl_unit_count(s) == unit_count, "a reopen that fails");
     must(ipl_begin(s, 0) == IPL_DOWN && ipl_merge(s, 0) == IPL_DOWN && calls == before, "leaves the store down");
     answer = IPL_OK;
-    must(ipl_reopen(s) == IPL_OK && given[1] == 8 && given[3] == 20 && ipl_begin(s, 0) == IPL_OK, "a reopen");
+    must(ipl_reopen(s) == IPL_OK && given[1] == 8 && given[3] == 20 && given[4] == 500 && ipl_begin(s, 0) == IPL_OK, "a reopen");
 }
 
 int main(void) {

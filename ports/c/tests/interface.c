@@ -45,9 +45,9 @@ static void try_versions(void) {
 
 /* Opens and checks in exactly as many bytes as are wanted, from this distance of a multiple of 16 on. */
 static void open_exactly(const struct ipl_config *some, size_t distance) {
-    size_t wanted = ipl_memory(some);
+    size_t wanted = ipl_memory(some), checked = ipl_check_memory(some), most = wanted > checked ? wanted : checked;
     /* Up to 15 bytes come before a multiple of 16, and as many are its distance. */
-    size_t size = EDGE + 15 + distance + wanted + EDGE;
+    size_t size = EDGE + 15 + distance + most + EDGE;
     uint8_t *room = malloc(size), *at;
     uint32_t records;
     must(room != NULL, "room");
@@ -56,14 +56,14 @@ static void open_exactly(const struct ipl_config *some, size_t distance) {
     must(ipl_open(&store, part_driver(PART), some, at, wanted) == IPL_OK, "an opening in as much as is wanted");
     must(ipl_begin(&store, 0) == IPL_OK && ipl_put(&store, 0, 3, "abc", 3) == IPL_OK, "a put in it");
     must(ipl_commit(&store, 0) == IPL_OK && ipl_close(&store) == IPL_OK, "a commit in it");
-    must(ipl_check(&store, part_driver(PART), some, at, ipl_check_memory(some), &records) == IPL_OK, "a check in it");
+    for (const uint8_t *p = at + wanted; p < room + size; p++) must(*p == GUARD, "bytes behind the memory");
+    must(ipl_check(&store, part_driver(PART), some, at, checked, &records) == IPL_OK, "a check in as much as is wanted");
     must(records == 1, "its record");
     for (const uint8_t *p = room; p < at; p++) must(*p == GUARD, "bytes before the memory");
-    for (int i = 0; i < EDGE; i++) must(at[wanted + (size_t)i] == GUARD, "bytes behind the memory");
+    for (const uint8_t *p = at + most; p < room + size; p++) must(*p == GUARD, "bytes behind a check's");
     must(ipl_open(&store, part_driver(PART), some, at, wanted - 1) == IPL_SMALL_MEMORY, "a byte less");
     must(ipl_detail(&store)[0] == wanted, "how many are wanted");
-    must(ipl_check(&store, part_driver(PART), some, at, ipl_check_memory(some) - 1, &records) == IPL_SMALL_MEMORY,
-         "a byte less for a check");
+    must(ipl_check(&store, part_driver(PART), some, at, checked - 1, &records) == IPL_SMALL_MEMORY, "a byte less for a check");
     must(ipl_format(&store, part_driver(PART), some, at, ipl_format_memory(some) - 1) == IPL_SMALL_MEMORY,
          "a byte less for a format");
     free(room);
@@ -71,18 +71,36 @@ static void open_exactly(const struct ipl_config *some, size_t distance) {
 
 static void try_memory(void) {
     static const uint32_t frames[] = {IPL_FRAMES_LEAST, 3, 16, IPL_FRAMES_MOST};
+    static const uint32_t numbers[] = {IPL_NUMBERS_LEAST, 121, 125, 127, 128, 1500, 15299};
     for (uint32_t places = IPL_PLACES_LEAST; places <= IPL_PLACES_MOST; places++)
         for (uint32_t some = IPL_FRAMES_LEAST; some <= IPL_FRAMES_MOST; some++) {
             struct ipl_config it = IPL_CONFIG(places, some, 0), few = IPL_CONFIG_OF(places, some, 0, 1);
+            struct ipl_config least = IPL_CONFIG_WITH(places, some, 0, 1, IPL_NUMBERS_LEAST);
             must(ipl_memory(&it) != 0 && ipl_memory(&it) <= IPL_MEMORY(places, some), "the macro has as much");
             must(ipl_memory(&few) != 0 && ipl_memory(&few) <= IPL_MEMORY_OF(places, some, 1), "also with one session");
-            must(ipl_check_memory(&it) <= ipl_memory(&it), "an opening's does for a check");
+            must(ipl_memory(&least) != 0 && ipl_memory(&least) <= IPL_MEMORY_WITH(places, some, 1, IPL_NUMBERS_LEAST),
+                 "and with the least numbers");
+            must(ipl_check_memory(&few) <= ipl_memory(&few), "that with all numbers does for a check");
             must(ipl_format_memory(&it) <= ipl_check_memory(&it), "and a check's for a format");
+            must(ipl_format_memory(&least) <= ipl_memory(&least), "as the least opening's");
         }
     for (size_t i = 0; i < sizeof frames / sizeof *frames; i++) {
         struct ipl_config it = IPL_CONFIG(PLACES, frames[i], 1);
         format_it();
         for (size_t distance = 0; distance < 16; distance += i == 0 ? 1 : 15) open_exactly(&it, distance);
+    }
+    /* A number takes 8 bytes and two bits. */
+    struct ipl_config all = IPL_CONFIG(PLACES, FRAMES, 1);
+    for (uint32_t numbers = IPL_NUMBERS_LEAST; numbers <= IPL_NUMBERS_MOST; numbers++) {
+        struct ipl_config it = IPL_CONFIG_WITH(PLACES, FRAMES, 1, IPL_SESSIONS, numbers);
+        must(ipl_memory(&it) <= IPL_MEMORY_WITH(PLACES, FRAMES, IPL_SESSIONS, numbers), "the macro for numbers");
+        must(ipl_memory(&all) - ipl_memory(&it) == 8 * (IPL_NUMBERS_MOST - numbers) + 2 * (1913 - (numbers + 7) / 8), "what numbers take");
+        must(ipl_check_memory(&it) == ipl_check_memory(&all), "a check has room for all of them");
+    }
+    for (size_t i = 0; i < sizeof numbers / sizeof *numbers; i++) {
+        struct ipl_config it = IPL_CONFIG_WITH(PLACES, FRAMES, 1, 2, numbers[i]);
+        format_it();
+        open_exactly(&it, i);
     }
     /* Also with few sessions, and of a part with more places. */
     for (uint32_t sessions = 1; sessions < 5; sessions++) {
@@ -113,7 +131,7 @@ static void try_answers(void) {
         must(ipl_is_refused(answer) == (a >= 2 && a < 40), "which answers are refusals");
         must(ipl_is_up(answer) == (a < 60), "which answers leave a store up");
     }
-    must(texts == 2 + 33 + 4 + 5 + 13, "how many answers there are");
+    must(texts == 2 + 34 + 4 + 5 + 14, "how many answers there are");
     must(ipl_is_refused(IPL_BAD_SESSION) && ipl_is_refused(IPL_BAD_SPARES) && !ipl_is_refused(IPL_NOTHING), "refusals");
     must(ipl_is_up(IPL_BAD_BUCKET) && !ipl_is_up(IPL_DOWN) && !ipl_is_up(IPL_PART_SPENT), "stores that are up");
 }
@@ -251,9 +269,7 @@ static void try_list(void) {
 
 /* ---- null pointers, and numbers out of range */
 
-static void refuse_config_of(uint32_t places, uint32_t frames, uint32_t spares, uint32_t sessions, enum ipl_answer opens,
-                             enum ipl_answer formats) {
-    struct ipl_config bad = IPL_CONFIG_OF(places, frames, spares, sessions);
+static void refuse(struct ipl_config bad, enum ipl_answer opens, enum ipl_answer formats) {
     uint32_t records;
     const struct ipl_driver *driver = part_driver(PART);
     must(opens == IPL_OK || ipl_open(&store, driver, &bad, memory, sizeof memory) == opens, "a config of an opening");
@@ -266,7 +282,12 @@ static void refuse_config_of(uint32_t places, uint32_t frames, uint32_t spares, 
 }
 
 static void refuse_config(uint32_t places, uint32_t frames, uint32_t spares, enum ipl_answer opens, enum ipl_answer formats) {
-    refuse_config_of(places, frames, spares, IPL_SESSIONS, opens, formats);
+    refuse((struct ipl_config)IPL_CONFIG(places, frames, spares), opens, formats);
+}
+
+/* Of an opening alone. */
+static void refuse_sizes(uint32_t sessions, uint32_t numbers, enum ipl_answer opens) {
+    refuse((struct ipl_config)IPL_CONFIG_WITH(PLACES, 4, 0, sessions, numbers), opens, IPL_OK);
 }
 
 static void refuse_driver(struct ipl_driver driver) {
@@ -353,9 +374,13 @@ static void try_bad_input(void) {
     refuse_config(PLACES, 4, PLACES - 4, IPL_OK, IPL_BAD_SPARES);
     refuse_config(200, 4, 65, IPL_OK, IPL_BAD_SPARES);
     refuse_config(200, 4, UINT32_MAX, IPL_OK, IPL_BAD_SPARES);
-    refuse_config_of(PLACES, 4, 0, 0, IPL_BAD_SESSIONS, IPL_OK);
-    refuse_config_of(PLACES, 4, 0, 33, IPL_BAD_SESSIONS, IPL_OK);
-    refuse_config_of(PLACES, 4, 0, UINT32_MAX, IPL_BAD_SESSIONS, IPL_OK);
+    refuse_sizes(0, IPL_NUMBERS_MOST, IPL_BAD_SESSIONS);
+    refuse_sizes(33, IPL_NUMBERS_MOST, IPL_BAD_SESSIONS);
+    refuse_sizes(UINT32_MAX, IPL_NUMBERS_MOST, IPL_BAD_SESSIONS);
+    refuse_sizes(IPL_SESSIONS, 0, IPL_BAD_NUMBERS);
+    refuse_sizes(IPL_SESSIONS, 119, IPL_BAD_NUMBERS);
+    refuse_sizes(IPL_SESSIONS, 15301, IPL_BAD_NUMBERS);
+    refuse_sizes(1, UINT32_MAX, IPL_BAD_NUMBERS);
     try_nulls_of_parts();
     after = part_counts(PART);
     must(memcmp(&before, &after, sizeof before) == 0, "the part is asked nothing");
@@ -564,6 +589,7 @@ static void try_state(void) {
     must(ipl_begin(&store, 4) == IPL_OK && ipl_put(&store, 4, 9, "xyz", 3) == IPL_OK, "a put that isn't committed");
     must(ipl_state(&store, &state) == IPL_OK && state.is_down == 0, "a store that is up");
     must(state.places == PLACES && state.frames == FRAMES && state.units == PLACES - 5 && state.spares == 1 && state.worn == 0, "its sizes");
+    must(state.sessions == IPL_SESSIONS && state.room == IPL_NUMBERS_MOST, "which are the greatest");
     after = part_counts(PART);
     must(state.reads == after.calls[READ] - before.calls[READ] && state.failures == 0, "its reads");
     must(state.programs == after.calls[PROGRAM] - before.calls[PROGRAM], "its programs");

@@ -5,7 +5,14 @@
 #include <stdlib.h>
 #include <string.h>
 
-enum { PLACES = 9, SPARES = 1, UNITS = PLACES - 4 - SPARES, NAMES = 960 * UNITS, OPEN = 4, MOST = 12 };
+/* With SMALL a store has the sizes of one in 128 KB: 2 frames, 2 sessions, and room for so many committed numbers; else it has
+ * 2 to 8 frames, and often room for few numbers. */
+#ifdef SMALL
+enum { MOST_FRAMES = 2, OPEN = 2, ALL_NUMBERS = SMALL };
+#else
+enum { MOST_FRAMES = 8, OPEN = 4, ALL_NUMBERS = IPL_NUMBERS_MOST };
+#endif
+enum { PLACES = 9, SPARES = 1, UNITS = PLACES - 4 - SPARES, NAMES = 960 * UNITS, MOST = 12 };
 
 struct record { uint32_t len; uint8_t there, bytes[IPL_VALUE]; };
 struct session { int is_open, count, shares; uint32_t names[MOST], shared[MOST]; struct record now[MOST]; };
@@ -88,6 +95,19 @@ static int has(const struct record *all) {
     return 1;
 }
 
+/* Opens it with any frames, and room for any numbers, unless more are committed. */
+static enum ipl_answer open_with_any(void) {
+    frames = 2 + any_below(MOST_FRAMES - 1);
+    struct ipl_config config = IPL_CONFIG_WITH(PLACES, frames, 0, OPEN, ALL_NUMBERS);
+#ifndef SMALL
+    if (any_below(2)) config.numbers = IPL_NUMBERS_LEAST + any_below(200);
+#endif
+    enum ipl_answer answer = part_open_with(store, 0, &config);
+    if (answer != IPL_MANY_NUMBERS) return answer;
+    config.numbers = ALL_NUMBERS;
+    return part_open_with(store, 0, &config);
+}
+
 static void open_again(void) {
     for (;;) {
         part_power_on(0);
@@ -97,8 +117,7 @@ static void open_again(void) {
             answer = ipl_reopen(store);
         } else {
             ipl_close(store);
-            frames = 2 + any_below(7);
-            answer = part_open(store, 0, PLACES, frames);
+            answer = open_with_any();
         }
         if (part_power_on(0)) {
             cuts[OPENING]++;
@@ -317,15 +336,14 @@ int main(int argc, char **argv) {
     seed = argc > 2 ? strtoull(argv[2], NULL, 10) : 1;
     any_begin(seed);
     part_new(0, PLACES);
-    frames = 4;
-    must(part_open(store, 0, PLACES, frames) == IPL_NOT_FORMATTED, "an unformatted part", 0);
+    must(open_with_any() == IPL_NOT_FORMATTED, "an unformatted part", 0);
     must(part_format(0, 4, 0, NULL) == IPL_BAD_PLACES, "four places", 0);
     must(part_format(0, PLACES, PLACES - 4, NULL) == IPL_BAD_SPARES, "no unit left", 0);
     must(part_format(0, PLACES, 65, NULL) == IPL_BAD_SPARES, "65 spare places", 0);
     must(part_format(0, PLACES, SPARES, NULL) == IPL_OK, "a format", 0);
     must(part_open(store, 0, PLACES, 1) == IPL_BAD_FRAMES, "one frame", 0);
     must(part_open(store, 0, PLACES, 65) == IPL_BAD_FRAMES, "65 frames", 0);
-    must(part_open(store, 0, PLACES, frames) == IPL_OK, "an opening", 0);
+    must(open_with_any() == IPL_OK, "an opening", 0);
     while (commits < wanted) step();
 
     /* The checker finds as many records as the copy has. */

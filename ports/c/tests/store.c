@@ -7,7 +7,14 @@ enum { STORES = 8, ODD = 1 };
 /* What was handed in for a struct, until that is handed in again. */
 static struct { const struct ipl *store; uint8_t *bytes; } memories[STORES];
 
+#ifdef STORE_BYTES
+static uint8_t store_memory[STORE_BYTES + ODD];
+#endif
+
 static void *memory_for(const struct ipl *s, size_t size) {
+#ifdef STORE_BYTES
+    if (size <= STORE_BYTES) return store_memory + ODD;
+#endif
     for (int i = 0; i < STORES; i++) {
         if (memories[i].store != s && memories[i].store != NULL) continue;
         free(memories[i].bytes);
@@ -43,16 +50,24 @@ enum ipl_answer part_check(uint32_t part, uint32_t places, uint32_t *records, ui
     return answer;
 }
 
+enum ipl_answer part_open_with(struct ipl *s, uint32_t part, const struct ipl_config *config) {
+    size_t size = ipl_memory(config);
+    return ipl_open(s, part_driver(part), config, memory_for(s, size), size);
+}
+
+enum ipl_answer part_open_keys_with(struct ipl_keys *k, uint32_t part, const struct ipl_config *config) {
+    size_t size = ipl_memory(config);
+    return ipl_keys_open(k, part_driver(part), config, memory_for(&k->store, size), size);
+}
+
 enum ipl_answer part_open(struct ipl *s, uint32_t part, uint32_t places, uint32_t frames) {
     struct ipl_config config = IPL_CONFIG(places, frames, 0);
-    size_t size = ipl_memory(&config);
-    return ipl_open(s, part_driver(part), &config, memory_for(s, size), size);
+    return part_open_with(s, part, &config);
 }
 
 enum ipl_answer part_open_keys(struct ipl_keys *k, uint32_t part, uint32_t places, uint32_t frames) {
     struct ipl_config config = IPL_CONFIG(places, frames, 0);
-    size_t size = ipl_memory(&config);
-    return ipl_keys_open(k, part_driver(part), &config, memory_for(&k->store, size), size);
+    return part_open_keys_with(k, part, &config);
 }
 
 int is_open(const struct ipl *s) {

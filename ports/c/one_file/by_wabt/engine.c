@@ -111,7 +111,8 @@ u32 Z_envZ_ipl_nand_read(struct Z_env_instance_t *env, u64 part, u32 place, u32 
 
 static size_t least(void) { return sizeof(struct ipl_engine) + HEAP + SLACK; }
 size_t ipl_engine_memory(const struct ipl_config *config) {
-    return least() + 154408 + 504 * (size_t)config->places + 16728 * (size_t)config->frames + 2600 * (size_t)config->sessions;
+    return least() + 28182 + 504 * (size_t)config->places + 16728 * (size_t)config->frames + 2600 * (size_t)config->sessions
+           + 8 * (size_t)config->numbers + 2 * (((size_t)config->numbers + 7) / 8);
 }
 size_t ipl_engine_check_memory(const struct ipl_config *config) { return least() + 140029 + 504 * (size_t)config->places; }
 size_t ipl_engine_format_memory(void) { return least(); }
@@ -162,6 +163,7 @@ uint32_t ipl_engine_format(struct ipl_engine *e, uint32_t places, uint32_t spare
 uint32_t ipl_engine_check(struct ipl_engine *e, uint32_t places) { return run(e, CHECK, places, 0); }
 uint32_t ipl_engine_open(struct ipl_engine *e, enum ipl_engine_kind kind, const struct ipl_config *config) {
     e->request.session = config->sessions;
+    e->request.name = config->numbers;
     return run(e, kind == IPL_ENGINE_KEYS ? KEYS : RECORDS, config->places, config->frames);
 }
 uint32_t ipl_engine_call(struct ipl_engine *e) { return run(e, CALL, 0, 0); }

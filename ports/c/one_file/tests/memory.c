@@ -1,9 +1,10 @@
-/* The memory of an engine: an opening and a check take what is said for each number of places and frames, and nothing is written past
+/* The memory of an engine: an opening and a check take what is said for each config, and nothing is written past
  * it; in less an opening answers that it is out of memory, or a trap. It has ipl.c within, to see the engine. */
 #include "ipl.c"
 #include "turned_part.h"
 
-enum { GUARD = 64 };
+/* Two rows of flags for numbers end up to 7 bytes before a multiple of 8 each; all else leaves a few bytes. */
+enum { GUARD = 64, LEFT = 8 + 2 * 7 };
 
 static void must(int holds, const char *what, unsigned long number) {
     if (holds) return;
@@ -34,8 +35,8 @@ static size_t left(const struct ipl_engine *e) { return (size_t)(e->end - e->hea
 
 static unsigned long in_less;
 
-static void in_too_little(uint32_t places, uint32_t frames) {
-    const struct ipl_config config = IPL_CONFIG(places, frames, 0);
+static void in_too_little(uint32_t places, uint32_t frames, uint32_t numbers) {
+    const struct ipl_config config = IPL_CONFIG_WITH(places, frames, 0, IPL_SESSIONS, numbers);
     size_t whole = ipl_engine_memory(&config), size;
     for (size = ipl_engine_format_memory(); size < whole; size += 1531) {
         uint32_t answer = ipl_engine_open(raise_in(size), IPL_ENGINE_RECORDS, &config);
@@ -46,7 +47,7 @@ static void in_too_little(uint32_t places, uint32_t frames) {
 }
 
 int main(int argc, char **argv) {
-    static const uint32_t many[] = {5, 6, 8, 9, 57, 257, 1028};
+    static const uint32_t many[] = {5, 6, 7, 8, 9, 10, 11, 12, 57, 257, 1028};
     uint32_t most = argc > 1 ? (uint32_t)atoi(argv[1]) : 1028, i, frames, tried = 0;
     for (i = 0; i < sizeof many / sizeof *many && many[i] <= most; i++) {
         uint32_t places = many[i];
@@ -62,16 +63,20 @@ int main(int argc, char **argv) {
         must(left(e) <= 16, "bytes that a check leaves", (unsigned long)left(e));
         nothing_is_written_behind();
         for (frames = IPL_FRAMES_LEAST; frames <= IPL_FRAMES_MOST; frames += 1 + frames / 4) {
-            const struct ipl_config config = IPL_CONFIG_OF(places, frames, 0, 1 + tried % IPL_SESSIONS);
+            const uint32_t numbers = tried % 3 ? IPL_NUMBERS_LEAST + tried * 131 % (IPL_NUMBERS_MOST - IPL_NUMBERS_LEAST + 1) : IPL_NUMBERS_MOST;
+            const struct ipl_config config = IPL_CONFIG_WITH(places, frames, 0, 1 + tried % IPL_SESSIONS, numbers);
             e = raise_in(ipl_engine_memory(&config));
             must(ipl_engine_open(e, tried % 2 ? IPL_ENGINE_KEYS : IPL_ENGINE_RECORDS, &config) == IPL_OK, "opening", frames);
-            must(left(e) <= 16, "bytes that an opening leaves", (unsigned long)left(e));
+            must(left(e) <= LEFT, "bytes that an opening leaves", (unsigned long)left(e));
             nothing_is_written_behind();
             tried++;
         }
-        if (places == 9) in_too_little(places, 3);
+        if (places == 9) {
+            in_too_little(places, 3, IPL_NUMBERS_MOST);
+            in_too_little(places, 3, IPL_NUMBERS_LEAST);
+        }
         free(part);
     }
-    printf("memory: %u openings that leave at most 16 bytes, %lu in too little memory\n", (unsigned)tried, in_less);
+    printf("memory: %u openings that leave at most %d bytes, %lu in too little memory\n", (unsigned)tried, LEFT, in_less);
     return 0;
 }
