@@ -6,7 +6,7 @@
 
 /* ---- the driver: a part of six places in memory ------------------------------------------------ */
 
-enum { PLACES = 6, FRAMES = 4 };
+enum { PLACES = 6, FRAMES = 2, SESSIONS = 2, NUMBERS = 600 };
 
 static uint8_t places[PLACES][IPL_SECTORS][IPL_SECTOR];
 static int writes_left = -1; /* the power goes in the last of so many writes; -1: it stays on */
@@ -46,8 +46,8 @@ static const struct ipl_driver driver = {NULL, read_sector, program_sector, eras
 
 /* ---- its use ------------------------------------------------------------------------------------ */
 
-static const struct ipl_config config = IPL_CONFIG(PLACES, FRAMES, 0);
-static uint8_t memory[IPL_MEMORY(PLACES, FRAMES)];
+static const struct ipl_config config = IPL_CONFIG_WITH(PLACES, FRAMES, 0, SESSIONS, NUMBERS);
+static uint8_t memory[IPL_MEMORY_WITH(PLACES, FRAMES, SESSIONS, NUMBERS)];
 static struct ipl store;
 
 static void must(enum ipl_answer answer, const char *what) {

@@ -1,5 +1,7 @@
 /* What a program needs to run on a Cortex-M under qemu's board mps2-an386: a start, and the few calls below newlib. What it prints
- * and how it ends goes to the host by semihosting. BOARD_TRAPS_UNALIGNED: an access that isn't aligned stops it, as a Cortex-M0 does. */
+ * and how it ends goes to the host by semihosting. BOARD_TRAPS_UNALIGNED: an access that isn't aligned stops it, as a Cortex-M0 does.
+ * BOARD_SAYS_STACK: its last line says how much of the memory between its variables and the end the stack took; where that was all of
+ * it, it ends with 98. */
 #include <stddef.h>
 #include <stdint.h>
 
@@ -7,7 +9,7 @@ extern uint32_t board_bss, board_bss_end, board_data, board_data_end, board_data
 extern char board_heap;
 int main(int argc, char **argv);
 
-enum { SAYS = 0x04, ENDS = 0x20, APPLICATION_EXIT = 0x20026, FAULT_STATUS = 99 };
+enum { SAYS = 0x04, ENDS = 0x20, APPLICATION_EXIT = 0x20026, FULL_STATUS = 98, FAULT_STATUS = 99 };
 
 static int host(int operation, const void *argument) {
     register int r0 __asm("r0") = operation;
@@ -16,8 +18,43 @@ static int host(int operation, const void *argument) {
     return r0;
 }
 
+#ifdef BOARD_SAYS_STACK
+enum { PAINT = 0x5AC3A53C };
+
+/* Below the caller's frame, which is the first one. */
+static void paint_stack(void) {
+    uint32_t *at = &board_bss_end, *here = (uint32_t *)__builtin_frame_address(0) - 16;
+    while (at < here) *at++ = PAINT;
+}
+
+static void say_number(uint32_t number) {
+    char digits[11];
+    int at = 10;
+    digits[10] = 0;
+    do digits[--at] = (char)('0' + number % 10);
+    while ((number /= 10) != 0);
+    host(SAYS, digits + at);
+}
+
+/* Whether some of it was left. */
+static int say_stack(void) {
+    const uint32_t *at = &board_bss_end;
+    while (at < &board_stack_top && *at == PAINT) at++;
+    host(SAYS, "stack: ");
+    say_number(4 * (uint32_t)(&board_stack_top - at));
+    host(SAYS, " bytes of ");
+    say_number(4 * (uint32_t)(&board_stack_top - &board_bss_end));
+    host(SAYS, "\n");
+    return at != &board_bss_end;
+}
+#else
+static void paint_stack(void) {}
+static int say_stack(void) { return 1; }
+#endif
+
 __attribute__((noreturn)) void _exit(int status) {
     uint32_t block[2] = {APPLICATION_EXIT, (uint32_t)status};
+    if (!say_stack()) block[1] = FULL_STATUS;
     for (;;) host(ENDS, block);
 }
 
@@ -30,6 +67,7 @@ static void reset(void) {
 #ifdef BOARD_TRAPS_UNALIGNED
     *(volatile uint32_t *)0xE000ED14 |= 8; /* UNALIGN_TRP of the control register */
 #endif
+    paint_stack();
     _exit(main(3, words));
 }
 
