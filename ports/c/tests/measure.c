@@ -1,5 +1,5 @@
 /* What a store takes: memory, stack and processor time; with -DWITH_SQLITE -lsqlite3 also SQLite's on the
- * same records. Linked with -pthread. usage: measure */
+ * same records. Linked with -pthread. With `numbers`, what room for few committed numbers costs. usage: measure [numbers] */
 #define _GNU_SOURCE
 #include "../ipl.h"
 #include <pthread.h>
@@ -203,7 +203,72 @@ static void measure_time(const char *what, int puts, uint32_t len) {
     printf("\n");
 }
 
-int main(void) {
+/* ---- room for few committed numbers */
+
+enum { BEHIND = 3000, COUNTED = 6000 };
+
+struct sizes { uint32_t places, sessions, numbers; };
+
+/* A put of 40 bytes at random in each session, and a commit of all. */
+static void commit_at_random(struct sizes size) {
+    uint32_t all[IPL_SESSIONS], s;
+    uint8_t value[40];
+    for (s = 0; s < size.sessions; s++) {
+        enum ipl_answer answer;
+        all[s] = s;
+        memset(value, (int)(any() & 255), sizeof value);
+        must(ipl_begin(&store, s) == IPL_OK, "begin");
+        do answer = ipl_put(&store, s, any() % ((size.places - 4) * IPL_UNIT_NAMES), value, sizeof value);
+        while (answer == IPL_CONFLICT);
+        must(answer == IPL_OK, "put");
+    }
+    must(ipl_commit_all(&store, all, size.sessions) == IPL_OK, "commit");
+}
+
+static void measure_numbers(struct sizes size) {
+    struct ipl_config config = IPL_CONFIG_WITH(size.places, 2, 0, size.sessions, size.numbers);
+    size_t wanted = ipl_memory(&config);
+    uint8_t *memory = malloc(wanted);
+    uint64_t most_programs = 0, most_erases = 0;
+    must(memory != NULL, "room for a store");
+    must(ipl_format(&store, &driver, &config, memory, wanted) == IPL_OK, "format");
+    must(ipl_open(&store, &driver, &config, memory, wanted) == IPL_OK, "open");
+    x = 12345;
+    for (int i = 0; i < BEHIND; i++) commit_at_random(size);
+    reads = programs = erases = barriers = 0;
+    for (int i = 0; i < COUNTED; i++) {
+        uint64_t programs_before = programs, erases_before = erases;
+        commit_at_random(size);
+        if (programs - programs_before > most_programs) most_programs = programs - programs_before;
+        if (erases - erases_before > most_erases) most_erases = erases - erases_before;
+    }
+    printf("| %u | %u | %u | %.2f | %.2f | %.3f | %llu | %llu |\n", size.sessions, size.places, size.numbers,
+           (double)reads / COUNTED, (double)programs / COUNTED, (double)erases / COUNTED,
+           (unsigned long long)most_programs, (unsigned long long)most_erases);
+    ipl_close(&store);
+    free(memory);
+}
+
+static void measure_all_numbers(void) {
+    static const uint32_t places[] = {8, 57, 257}, numbers[] = {IPL_NUMBERS_LEAST, 300, 600, 1500, IPL_NUMBERS_MOST};
+    static const uint32_t sessions[] = {1, 4, 32};
+    printf("| sessions | places | numbers | sectors read | programs | erases | programs at the worst | erases at the worst |\n"
+           "|---|---|---|---|---|---|---|---|\n");
+    for (size_t s = 0; s < sizeof sessions / sizeof *sessions; s++)
+        for (size_t p = 0; p < sizeof places / sizeof *places; p++) {
+            bytes = malloc(places[p] * sizeof *bytes);
+            must(bytes != NULL, "room");
+            for (size_t n = 0; n < sizeof numbers / sizeof *numbers; n++)
+                measure_numbers((struct sizes){places[p], sessions[s], numbers[n]});
+            free(bytes);
+        }
+}
+
+int main(int argc, char **argv) {
+    if (argc > 1 && strcmp(argv[1], "numbers") == 0) {
+        measure_all_numbers();
+        return 0;
+    }
     struct size sizes[] = {{5, 2}, {8, 16}, {257, 16}, {1028, 16}};
     for (size_t i = 0; i < sizeof sizes / sizeof *sizes; i++) measure_memory(sizes[i]);
     bytes = malloc(TIMED_PLACES * sizeof *bytes);
