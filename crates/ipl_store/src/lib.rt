@@ -5,7 +5,8 @@
 //! call which state it leads to from each state that memory and chip stand for, when it is refused,
 //! and what it may do to the chip. That the store is sound for the chip's number of places
 //! (`IsSound`) is the one condition of all calls, but that a batch names at most 32 sessions:
-//! `open` gives it, and each call keeps it.
+//! `open` gives it, and each call keeps it. All memory is made by `Memory::new`, lent to an opening,
+//! and given back by `into_memory`; no other call is handed an allocator.
 //!
 //! Proved, by `Store`'s calls: a store of sessions on a chip of 5 to 1,028 places, with 2 to 64
 //! frames. Each call is refused exactly where the rules refuse it, the store is down or its numbers

@@ -6,7 +6,7 @@ use crate::transactions::Transactions;
 use restart::{KeptNumbers, Scratch};
 
 /// A store of records over a chip. It has the chip's tables, pages in frames and open sessions in
-/// memory; the chip comes with each call. Memory is taken by `open` alone.
+/// memory; the chip comes with each call. Its memory was made by `Memory::new`.
 #[derive(Drop)]
 pub struct Store {
     pub(crate) transactions: Transactions,
