@@ -19,7 +19,7 @@ extern "C" {
  * Of this header, as 10,000 times the first number, 100 times the second and the third. A config has it,
  * and a library of another version refuses that.
  */
-#define IPL_VERSION 10100u
+#define IPL_VERSION 10200u
 /* The version of the library, which is IPL_VERSION of the header that it was made with. */
 uint32_t ipl_version(void);
 /* The version of the format that it writes to a part. It reads that one and all before it. */
@@ -35,6 +35,8 @@ enum ipl_limit {
     IPL_SECTORS = 256,       /* of a place */
     IPL_SECTOR = 512,        /* bytes of a sector */
     IPL_SESSIONS = 32,       /* at most, and 1 at least; S of them have the numbers 0 to S - 1 */
+    IPL_NUMBERS_LEAST = 120, /* committed numbers that have room in memory */
+    IPL_NUMBERS_MOST = 15300,
     IPL_UNIT_NAMES = 960,    /* names of a unit: unit u has those from 960 u on */
     IPL_UNIT_PAGES = 15,
     IPL_PAGE_NAMES = 64,     /* names of a page, which share its bytes: */
@@ -80,21 +82,27 @@ struct ipl_config {
     uint32_t frames;  /* 2 to 64; a format and a check don't look at them */
     uint32_t spares;  /* of a format alone: places for those that wear out, 0 to 64, at most places - 5 */
     uint32_t sessions; /* that may be open at once, 1 to 32; a format and a check don't look at them */
+    uint32_t numbers; /* so many committed ones have room in memory, 120 to 15,300; a format and a check don't look at it */
 };
-/* A config, as in: struct ipl_config config = IPL_CONFIG(1024, 16, 20); with 32 sessions, or with as many as are said. */
+/* A config, as in: struct ipl_config config = IPL_CONFIG(1024, 16, 20); with 32 sessions and room for 15,300 committed
+ * numbers, or with as many as are said. */
 #define IPL_CONFIG(places, frames, spares) IPL_CONFIG_OF(places, frames, spares, IPL_SESSIONS)
 #define IPL_CONFIG_OF(places, frames, spares, sessions) \
-    { IPL_VERSION, (uint32_t)(places), (uint32_t)(frames), (uint32_t)(spares), (uint32_t)(sessions) }
+    IPL_CONFIG_WITH(places, frames, spares, sessions, IPL_NUMBERS_MOST)
+#define IPL_CONFIG_WITH(places, frames, spares, sessions, numbers) \
+    { IPL_VERSION, (uint32_t)(places), (uint32_t)(frames), (uint32_t)(spares), (uint32_t)(sessions), (uint32_t)(numbers) }
 
-/* How many bytes an opening wants, which do for a format and a check too; a check alone; a format alone.
- * 0: the config isn't one that an opening takes, or a check, or a format. */
+/* How many bytes an opening wants, which do for a format too; a check, which has room for 15,300 numbers, and may want more
+ * than an opening with fewer; a format alone. 0: the config isn't one that an opening takes, or a check, or a format. */
 size_t ipl_memory(const struct ipl_config *config);
 size_t ipl_check_memory(const struct ipl_config *config);
 size_t ipl_format_memory(const struct ipl_config *config);
 /* As many or some more, for an array: static uint8_t memory[IPL_MEMORY(1024, 16)]; */
 #define IPL_MEMORY(places, frames) IPL_MEMORY_OF(places, frames, IPL_SESSIONS)
-#define IPL_MEMORY_OF(places, frames, sessions) \
-    ((size_t)202752 + (size_t)504 * (places) + (size_t)16728 * (frames) + (size_t)2600 * (sessions))
+#define IPL_MEMORY_OF(places, frames, sessions) IPL_MEMORY_WITH(places, frames, sessions, IPL_NUMBERS_MOST)
+#define IPL_MEMORY_WITH(places, frames, sessions, numbers) \
+    ((size_t)75000 + (size_t)504 * (places) + (size_t)16728 * (frames) + (size_t)2600 * (sessions) \
+     + (size_t)8 * (numbers) + 2 * (((size_t)(numbers) + 7) / 8))
 
 /* ---- answers ------------------------------------------------------------------------------------
  *
@@ -138,6 +146,7 @@ enum ipl_answer {
     IPL_BAD_PLACES = 32,     /* not 5 to 1,028 */
     IPL_BAD_SPARES = 33,     /* more than 64, or no unit is left */
     IPL_BAD_SESSIONS = 34,   /* not 1 to 32 */
+    IPL_BAD_NUMBERS = 35,    /* room for fewer than 120 committed numbers, or for more than 15,300 */
 
     /* 40 to 59: failed. The store goes on, and so do its sessions. */
     IPL_READ_FAULT = 40, /* a read failed */
@@ -169,7 +178,8 @@ enum ipl_answer {
     IPL_PART_DAMAGED = 89,   /* detail: place, sector, stored sum, computed sum */
     IPL_PART_MALFORMED = 90, /* detail: place, sector */
     IPL_PART_WORN_OUT = 91,  /* detail: how many places are worn, one more than are spare */
-    IPL_PART_SPENT = 92      /* the numbers of calls are used up */
+    IPL_PART_SPENT = 92,     /* the numbers of calls are used up */
+    IPL_MANY_NUMBERS = 93    /* more committed numbers stand there than the config has room for. Nothing was written */
 };
 
 /* An answer in words; also of a number that is none. */
@@ -192,6 +202,7 @@ int ipl_is_up(enum ipl_answer answer);
  */
 struct ipl_facts {
     uint32_t places, frames, sessions;
+    uint32_t room;     /* so many committed numbers have room in memory */
     uint32_t units;
     uint32_t spares;   /* so many places were to spare when the part was formatted */
     uint32_t is_down;  /* 1: the store does nothing until it is opened again */
@@ -204,7 +215,8 @@ struct ipl_facts {
     uint32_t least_erases;  /* so often that place was erased that was least often, of those not retired */
     uint32_t most_erases;   /* and that which was most often */
     uint32_t clean_logs;    /* so many log sectors, up to 15, are clean in the place of the fullest unit */
-    uint32_t clean_commits; /* so many commit sectors, up to 255; the commit after them makes a new status block */
+    uint32_t clean_commits; /* so many commit sectors, up to 255, and 0 where fewer than 60 numbers have room; a commit makes a
+                             * new status block where it is 0 */
     uint64_t numbers;       /* so many numbers may be drawn until calls answer IPL_SPENT */
 };
 
