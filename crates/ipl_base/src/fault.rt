@@ -87,15 +87,6 @@ pub enum ImageFault {
     TooManyNumbers,
 }
 
-/// Why a store can't be opened.
-#[derive(Clone, Copy, Debug, PartialEq, Eq, Error)]
-pub enum OpenFault {
-    #[error("{0}")]
-    Image(ImageFault),
-    #[error("out of memory")]
-    OutOfMemory,
-}
-
 /// Why a store did not do what it was asked.
 #[derive(Clone, Copy, Debug, PartialEq, Eq, Error)]
 pub enum StoreFault {
@@ -159,16 +150,5 @@ impl From<Refusal> for StoreFault {
 
     fn from(refusal: Refusal) -> StoreFault {
         StoreFault::Refused(refusal)
-    }
-}
-
-impl From<ImageFault> for OpenFault {
-    ghost use Rattle.std.specs.Prelude.{◌≡◌};
-    ghost use Rattle.ipl_base.specs.declared.fault.OpenFault.TheVariants.{Image};
-
-    ghost from_gives = { λ fault made. made ≡ Image fault };
-
-    fn from(fault: ImageFault) -> OpenFault {
-        OpenFault::Image(fault)
     }
 }

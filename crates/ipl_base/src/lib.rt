@@ -15,7 +15,7 @@ mod spot;
 mod value;
 
 pub use counter::Counter;
-pub use fault::{ChipFault, FormatFault, ImageFault, OpenFault, OutOfMemory, Refusal, StoreFault};
+pub use fault::{ChipFault, FormatFault, ImageFault, OutOfMemory, Refusal, StoreFault};
 pub use geometry::Geometry;
 pub use limits::{
     CARRIED_SECTORS, COMMIT_NUMBERS, FIRST_LOG_SECTOR, FIRST_SPENT, FRAMES, KEPT_NUMBERS,
