@@ -60,8 +60,8 @@ fn tables_of_unit(alloc: Global) -> Result<Tables, Fail>
     let mut directory = Directory::new(alloc, geometry)?;
     directory.adopt(0, 1, 5);
     let mut overflow = Overflow::new(alloc, geometry)?;
-    overflow.add(0, at(4, 3), 0);
-    overflow.add(0, at(4, 200), 0);
+    let _ = overflow.find(0, at(4, 3), 0);
+    let _ = overflow.find(0, at(4, 200), 0);
     Ok(Tables {
         directory,
         overflow,

@@ -4,3 +4,6 @@ mod AddedLemmas
 mod DroppedLemmas
 mod SoundLemmas
 mod FillLemmas
+mod PartLemmas
+mod TableLemmas
+mod StateLemmas

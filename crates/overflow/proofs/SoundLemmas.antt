@@ -1,13 +1,12 @@
 -- What always holds of the table, after each call.
-use Rattle.std.proofs.Common.{◌≡◌, ℕ, ◌<◌, ◌+◌, List, [], ◌∷◌, ◌++◌, length, map, inl, inr, sym, ◌∙◌, ap, get_or, subst, arith, eqb, set}
-use Rattle.std.specs.List.{filter}
+use Rattle.std.proofs.Common.{◌≡◌, ℕ, zero, suc, ◌<◌, ◌+◌, List, [], ◌∷◌, ◌++◌, length, replicate, inl, inr, refl, sym, ◌∙◌, ap, get_or, subst, arith, eqb, set}
 use Rattle.std.proofs.lemmas.Bool.{cases_Bool, cases_eq, cases_lt}
-use Rattle.std.proofs.lemmas.List.{length-set, length-map, length_push, get_or-set_same, get_or-set_other, get_or_past}
-use Rattle.std.proofs.lemmas.List.Elements.{All-nil, All-push, All-get_or, All-set, All-map, All-filter, All-weaker}
+use Rattle.std.proofs.lemmas.List.{length-set, length-map, length-replicate, length_push, get_or-set_same, get_or-set_other, get_or_past}
+use Rattle.std.proofs.lemmas.List.Elements.{All-nil, All-push, All-replicate, All-get_or, All-set, All-map, All-filter, All-weaker}
 use Rattle.std.proofs.lemmas.List.Sums.{length-filter, count_by-le-length}
-use Rattle.ipl_base.specs.Places.{KeepsUnits}
+use Rattle.ipl_base.specs.Places.{IsGeometry, KeepsUnits}
 use Rattle.ipl_meaning.specs.Tables.{OverflowLists}
-use Rattle.overflow.specs.Lists.{IsSoundOverflow, IsFirstClean, AreFew, IsSpotWithin, AreWithin, IsPlaceOf, clean_behind, after_add, after_drop, is_kept, spots_in, masks_at, without_unit}
+use Rattle.overflow.specs.Lists.{IsSoundOverflow, IsFirstClean, AreFew, IsSpotWithin, AreWithin, IsPlaceOf, clean_behind, as_used, all_used, empty_lists, with_place, after_add, after_drop, is_kept, spots_in, masks_at, without_unit}
 
 first_still : (p s : ℕ) → s < 256 → (o : ℕ × ℕ) → IsFirstClean o → IsFirstClean (clean_behind p s o)
 first_still p s low o (least, most) = elim (cases_Bool (eqb o.0 p)) [
@@ -81,18 +80,51 @@ sound_dropped it u sound = record {
       | inr past ↦ ap length (get_or_past (set l u []) u [] (omega (arith, past, length-set l u [])))
     ]
 
--- ---- the fields after a call
+-- ---- none, and places in use
 
-pub sound_after : (it : OverflowLists) (u p s mask : ℕ) (list : List (ℕ × ℕ)) (masks : List ℕ) (places : List (ℕ × ℕ))
-    → IsSoundOverflow it → u < length it.spots → length (spots_in it u) < 16
-    → p < it.places → s < 256
-    → list ≡ spots_in it u ++ (p, s) ∷ [] → masks ≡ masks_at it u ++ mask ∷ [] → places ≡ map (clean_behind p s) it.in_use
-    → IsSoundOverflow (record { places = it.places; spots = set it.spots u list; masks = set it.masks u masks; in_use = places })
-sound_after it u p s mask list masks places sound unit few place low is names are =
-    rw (is, names, are) (sound_added it u p s mask sound unit few place low)
+empty_part : (X : Type 0) (n u : ℕ) → length (get_or (replicate n (let xs : List X = [] in xs)) u []) ≡ 0
+empty_part X zero u = refl
+empty_part X (suc n) zero = refl
+empty_part X (suc n) (suc u) = empty_part X n u
 
-pub sound_left : (it : OverflowLists) (u : ℕ) (list : List (ℕ × ℕ)) (masks : List ℕ) (places : List (ℕ × ℕ))
-    → IsSoundOverflow it → list ≡ [] → masks ≡ []
-    → places ≡ filter (is_kept (without_unit it u)) it.in_use
-    → IsSoundOverflow (record { places = it.places; spots = set it.spots u list; masks = set it.masks u masks; in_use = places })
-sound_left it u list masks places sound is none are = rw (is, none, are) (sound_dropped it u sound)
+pub sound_empty : (places units : ℕ) → IsGeometry places → KeepsUnits places units → IsSoundOverflow (empty_lists places units)
+sound_empty places units geometry keeps = record {
+  places = geometry;
+  units = subst (KeepsUnits places) (sym (length-replicate units [])) keeps;
+  few = All-replicate AreFew units [] (omega arith);
+  two = omega arith;
+  firsts = All-nil IsFirstClean;
+  within = All-replicate (AreWithin places) units [] (All-nil (IsSpotWithin places));
+  placed = All-nil (IsPlaceOf places);
+  lists = length-replicate units [] ∙ sym (length-replicate units []);
+  each = λ u. empty_part ℕ units u ∙ sym (empty_part (ℕ × ℕ) units u);
+}
+
+pub sound_placed : (it : OverflowLists) (p : ℕ) → IsSoundOverflow it → length it.in_use < 2 → p < it.places
+    → IsSoundOverflow (with_place it p 1)
+sound_placed it p sound few low = record {
+  places = sound.places;
+  units = sound.units;
+  few = sound.few;
+  two = omega (arith, few, length_push it.in_use (p, 1));
+  firsts = All-push IsFirstClean it.in_use (p, 1) sound.firsts (omega arith, omega arith);
+  within = sound.within;
+  placed = All-push (IsPlaceOf it.places) it.in_use (p, 1) sound.placed low;
+  lists = sound.lists;
+  each = sound.each;
+}
+
+pub sound_used : (it : OverflowLists) → IsSoundOverflow it → IsSoundOverflow (all_used it)
+sound_used it sound = record {
+  places = sound.places;
+  units = sound.units;
+  few = sound.few;
+  two = omega (arith, sound.two, length-map it.in_use as_used);
+  firsts = All-map IsFirstClean as_used it.in_use
+      (All-weaker IsFirstClean (λ o. IsFirstClean (as_used o)) (λ o is. (omega arith, omega arith)) it.in_use sound.firsts);
+  within = sound.within;
+  placed = All-map (IsPlaceOf it.places) as_used it.in_use
+      (All-weaker (IsPlaceOf it.places) (λ o. IsPlaceOf it.places (as_used o)) (λ o is. is) it.in_use sound.placed);
+  lists = sound.lists;
+  each = sound.each;
+}

@@ -1,20 +1,15 @@
 -- What the calls on overflow places make of the table, and what always holds of it.
-use Rattle.std.specs.Prelude.{ℕ, ◌≡◌, ◌<◌, ◌≤◌, ◌+◌, ◌==◌, Bool, not, max, nat_le, List, [], ◌∷◌, ◌++◌, map, length, slice_index_or, slice_set, replicate, Option, Some, None, All, if◌then◌else◌}
+use Rattle.std.specs.Prelude.{ℕ, ◌≡◌, ◌<◌, ◌≤◌, ◌+◌, ◌==◌, ◌||◌, Bool, not, max, nat_le, nat_lt, List, [], ◌∷◌, ◌++◌, map, length, slice_index_or, slice_set, replicate, Option, Some, None, All, Contains, if◌then◌else◌}
 use Rattle.std.specs.List.{list_any, filter}
 use Rattle.ipl_base.specs.declared.limits.TheConstants.{SECTORS, OVERFLOW_PLACES, OVERFLOW_SECTORS}
 use Rattle.ipl_base.specs.Places.{IsGeometry, KeepsUnits}
 use Rattle.ipl_base.specs.declared.spot.Spot.{Spot}
 use Rattle.overflow.specs.declared.places.PlaceInUse.{PlaceInUse}
-use Rattle.overflow.specs.declared.spots.ShortSpot.{ShortSpot}
 use Rattle.ipl_meaning.specs.Tables.{OverflowLists, place_of}
 
 -- a spot, as its place and its sector
 abbrev pub pair_of : Spot → ℕ × ℕ
 pair_of spot = (spot.place, spot.sector)
-
--- and where it is kept short
-abbrev pub short_pair : ShortSpot → ℕ × ℕ
-short_pair spot = (spot.place, spot.sector)
 
 -- an overflow place in use, as the place and its first clean sector
 abbrev pub first_of : PlaceInUse → ℕ × ℕ
@@ -65,6 +60,34 @@ after_add it u p s mask = record {
   in_use = map (clean_behind p s) it.in_use;
 }
 
+-- the sector of the place is one that isn't used yet: the place is in use, and its first clean sector no later one
+abbrev pub IsUnused : List (ℕ × ℕ) → ℕ → ℕ → Type 0
+IsUnused in_use p s = (first : ℕ) × Contains in_use (p, first) × (first ≤ s)
+
+-- no sector of the place from this one on is used yet
+abbrev pub AreUnused : List (ℕ × ℕ) → ℕ → ℕ → Type 0
+AreUnused in_use p s = All (λ place. place.0 ≡ p → place.1 ≤ s) in_use
+
+-- the place is in use, or may be
+abbrev pub has_room_for : OverflowLists → ℕ → Bool
+has_room_for it p = names_place p it.in_use || nat_lt (length it.in_use) OVERFLOW_PLACES
+
+-- A log sector that is found is the unit's, behind its others, and its place is in use; but where that would be a third
+-- one, nothing changes.
+abbrev pub after_find : OverflowLists → ℕ → ℕ → ℕ → ℕ → OverflowLists
+after_find it u p s mask =
+    if names_place p it.in_use then after_add it u p s mask
+    else if nat_lt (length it.in_use) OVERFLOW_PLACES then after_add (with_place it p 1) u p s mask
+    else it
+
+-- no sector of the place is known clean
+abbrev pub as_used : ℕ × ℕ → ℕ × ℕ
+as_used place = (place.0, SECTORS)
+
+-- nor of any place in use
+abbrev pub all_used : OverflowLists → OverflowLists
+all_used it = record it { in_use = map as_used it.in_use }
+
 -- the unit has no spots any more
 abbrev pub without_unit : OverflowLists → ℕ → List (List (ℕ × ℕ))
 without_unit it u = slice_set it.spots u []
@@ -90,10 +113,10 @@ is_left spots p = not (is_named spots p)
 abbrev pub places_left : OverflowLists → ℕ → List ℕ
 places_left it u = filter (is_left (without_unit it u)) (map place_of it.in_use)
 
--- the place, where no spot names it
-abbrev pub left_of : List (List (ℕ × ℕ)) → Option ℕ → Option ℕ
+-- the place, where none of these spots stands in it
+abbrev pub left_of : List (ℕ × ℕ) → Option ℕ → Option ℕ
 left_of spots None = None
-left_of spots (Some p) = if is_named spots p then None else Some p
+left_of spots (Some p) = if names_place p spots then None else Some p
 
 -- those of some places that are there
 abbrev pub listed : List (Option ℕ) → List ℕ

@@ -6,10 +6,10 @@
 //! that has one; a place is given up exactly where no unit's list names it any more.
 #![tactic(auto)]
 
+mod entries;
 mod laws;
 mod overflow;
 mod places;
-mod spots;
 
 pub use laws::overflow_laws;
 pub use overflow::Overflow;

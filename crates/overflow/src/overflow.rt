@@ -1,47 +1,54 @@
 //! The table of overflow places.
-ghost use Rattle.std.specs.Prelude.{◌≡◌, ◌≤◌, ◌<◌, [], ℕ, map, replicate, length, nat_lt, Contains, IfOk, IfSome, IfNone, None};
+ghost use Rattle.std.specs.Prelude.{◌≡◌, ◌≤◌, ◌<◌, ℕ, map, length, nat_lt, Contains, IfOk, IfSome, IfNone, None};
 ghost use Rattle.std.specs.Option.{option_map};
-ghost use Rattle.bounded_vec.specs.Bounded.{with_items};
 ghost use Rattle.ipl_base.specs.declared.limits.TheConstants.{OVERFLOW_SECTORS};
 ghost use Rattle.ipl_base.specs.Places.{KeepsUnits};
-ghost use Rattle.overflow.specs.Lists.{pair_of, spots_in, masks_at, empty_lists, with_place, after_add, after_drop, places_left, listed, first_spot, AreWithin, IsSoundOverflow};
+ghost use Rattle.overflow.specs.Lists.{pair_of, spots_in, masks_at, empty_lists, with_place, after_add, after_find, has_room_for, after_drop, all_used, places_left, listed, first_spot, IsUnused, AreUnused, AreWithin, IsSoundOverflow};
 
-use crate::places::{PlaceInUse, first_spot, keep_named, places_left, use_spot};
-use crate::spots::{MaskList, SpotList};
+use crate::entries::{Entry, cut, first_of, masks_in, spots_in};
+use crate::places::{
+    PlaceInUse, first_spot, has_place, keep_named, places_left, use_all, use_spot,
+};
 use arrayvec::ArrayVec;
 use bounded_vec::BoundedVec;
-use ipl_base::{
-    Geometry, OVERFLOW_PLACES, OVERFLOW_SECTORS, OutOfMemory, RESERVED_PLACES, SECTORS, Spot,
-};
+use ipl_base::{Geometry, OVERFLOW_PLACES, OVERFLOW_SECTORS, OutOfMemory, RESERVED_PLACES, Spot};
 use std::alloc::Global;
 use std::marker::Model;
+
+/// How many log sectors can stand in overflow places.
+const MOST_ENTRIES: usize = 510;
 
 /// Where the log sectors in overflow places stand, by unit, at most 16 of each; and which places
 /// are overflow places in use, at most two, each with its first clean sector. A contract sees the
 /// spots as pairs of place and sector, and how many places the chip has, always as many. Memory is
 /// taken by `new` alone, for as many units as are kept where no place is spare.
+///
+/// All of them are in one list, those of a unit beside one another. Each stands in a place in use,
+/// before its first clean sector; so they are at most 510, however many units there are.
 #[derive(Drop)]
 pub struct Overflow {
     places: u32,
-    spots: BoundedVec<SpotList>,
-    masks: BoundedVec<MaskList>,
+    counts: BoundedVec<u8>,
+    entries: BoundedVec<Entry>,
     in_use: ArrayVec<PlaceInUse, OVERFLOW_PLACES>,
 }
 
 impl Model for Overflow {
     ghost use Rattle.std.specs.Prelude.{map, ◌≤◌};
     ghost use Rattle.ipl_meaning.specs.Tables.{OverflowLists};
-    ghost use Rattle.overflow.specs.Lists.{overflow_table, first_of, IsSoundOverflow};
+    ghost use Rattle.overflow.specs.Lists.{first_of, IsSoundOverflow};
+    ghost use Rattle.overflow.specs.Parted.{spot_of, lists_of, most_entries, FitsTable};
     ghost use Rattle.ipl_base.specs.Places.{units_on};
 
     ghost Value = { OverflowLists };
 
-    ghost view = { λ o. overflow_table o.places o.spots.items o.masks.items (map first_of o.in_use.items) };
+    ghost view = { λ o. lists_of o.places o.counts.items o.entries.items (map first_of o.in_use.items) };
 
     ghost invariant = { λ o. IsSoundOverflow
-        (overflow_table o.places o.spots.items o.masks.items (map first_of o.in_use.items))
-        × (units_on o.places ≤ o.spots.room)
-        × (units_on o.places ≤ o.masks.room) };
+        (lists_of o.places o.counts.items o.entries.items (map first_of o.in_use.items))
+        × FitsTable o.counts.items (map spot_of o.entries.items) (map first_of o.in_use.items)
+        × (units_on o.places ≤ o.counts.room)
+        × (most_entries (units_on o.places) ≤ o.entries.room) };
 }
 
 impl Overflow {
@@ -50,16 +57,14 @@ impl Overflow {
         ensures { IfOk result (λ overflow. overflow ≡ empty_lists geometry.places geometry.units) }
     {
         let places = geometry.places();
-        let units = geometry.units();
-        let most = (places - RESERVED_PLACES) as usize;
-        let mut spots = BoundedVec::new(alloc, most)?;
-        let mut masks = BoundedVec::new(alloc, most)?;
-        clear_spots(&mut spots, units);
-        clear_masks(&mut masks, units);
+        let units = (places - RESERVED_PLACES) as usize;
+        let most = (OVERFLOW_SECTORS * units).min(MOST_ENTRIES);
+        let counts = BoundedVec::filled(alloc, units, geometry.units() as usize, 0)?;
+        let entries = BoundedVec::new(alloc, most)?;
         Ok(Overflow {
             places,
-            spots,
-            masks,
+            counts,
+            entries,
             in_use: ArrayVec::new(),
         })
     }
@@ -69,8 +74,8 @@ impl Overflow {
         requires { KeepsUnits self.old.places units }
         ensures { self.new ≡ empty_lists self.old.places units }
     {
-        clear_spots(&mut self.spots, units);
-        clear_masks(&mut self.masks, units);
+        self.counts.refill(units as usize, 0);
+        self.entries.clear();
         self.in_use = ArrayVec::new();
     }
 
@@ -79,7 +84,7 @@ impl Overflow {
     pub fn facts(&self)
         ensures { IsSoundOverflow self.now }
     {
-        let _ = &self.spots;
+        let _ = &self.counts;
     }
 
     /// Where the unit's log sectors in overflow places stand, the oldest first, at most 16.
@@ -89,18 +94,26 @@ impl Overflow {
         ensures few { length result.items ≤ OVERFLOW_SECTORS }
         ensures within { AreWithin self.now.places (spots_in self.now unit) }
     {
-        let list = &self.spots[unit as usize];
-        list.list()
+        let count = usize::from(self.counts[unit as usize]);
+        if count == 0 {
+            return ArrayVec::new();
+        }
+        let from = first_of(&self.counts, unit as usize);
+        spots_in(&self.entries, from, count)
     }
 
     /// Which pages each of these log sectors names, in the same order: bit p is page p's.
-    pub fn masks(&self, unit: u32) -> &[u16]
+    pub fn masks(&self, unit: u32) -> ArrayVec<u16, OVERFLOW_SECTORS>
         requires { unit < length self.now.spots }
-        ensures masks { result.now ≡ masks_at self.now unit }
-        ensures each { length result.now ≡ length (spots_in self.now unit) }
+        ensures masks { result.items ≡ masks_at self.now unit }
+        ensures each { length result.items ≡ length (spots_in self.now unit) }
     {
-        let masks = &self.masks[unit as usize];
-        masks.as_slice()
+        let count = usize::from(self.counts[unit as usize]);
+        if count == 0 {
+            return ArrayVec::new();
+        }
+        let from = first_of(&self.counts, unit as usize);
+        masks_in(&self.entries, from, count)
     }
 
     /// How many these are.
@@ -109,8 +122,7 @@ impl Overflow {
         ensures count { result ≡ length (spots_in self.now unit) }
         ensures few { result ≤ OVERFLOW_SECTORS }
     {
-        let list = &self.spots[unit as usize];
-        list.len()
+        u32::from(self.counts[unit as usize])
     }
 
     /// The first clean sector of the lowest overflow place that has one.
@@ -146,31 +158,54 @@ impl Overflow {
         self.in_use.push(PlaceInUse { place, first: 1 });
     }
 
-    /// A place is an overflow place in use, as one that was found on a chip: none of its sectors is
-    /// known clean. That one more may be taken is a condition, which `may_add` tests.
-    pub fn adopt_place(&mut self, place: u32)
-        requires few { length self.old.in_use < 2 }
-        requires place { place < self.old.places }
-        ensures { self.new ≡ with_place self.old place 256 }
+    /// None of the sectors of the places in use is known clean any more, as of places that were found
+    /// on a chip.
+    pub fn use_places(&mut self)
+        ensures { self.new ≡ all_used self.old }
     {
-        let first = SECTORS;
-        self.in_use.push(PlaceInUse { place, first });
+        use_all(self.in_use.as_mut_slice());
     }
 
     /// Puts a spot behind the unit's others, of which there are fewer than 16, with the pages that
-    /// its log sector names. It isn't clean any more, nor is any before it in its place.
+    /// its log sector names. It isn't clean any more, nor is any before it in its place. That it was
+    /// clean is a condition.
     pub fn add(&mut self, unit: u32, spot: Spot, mask: u16)
         requires unit { unit < length self.old.spots }
         requires few { length (spots_in self.old unit) < OVERFLOW_SECTORS }
         requires place { spot.place < self.old.places }
         requires sector { spot.sector < 256 }
+        requires clean { IsUnused self.old.in_use spot.place spot.sector }
         ensures { self.new ≡ after_add self.old unit spot.place spot.sector mask }
     {
         use_spot(self.in_use.as_mut_slice(), spot);
-        let list = &mut self.spots[unit as usize];
-        list.push(spot);
-        let masks = &mut self.masks[unit as usize];
-        masks.push(mask);
+        let unit = unit as usize;
+        // Behind the unit's others is where the next unit's begin.
+        let at = first_of(&self.counts, unit + 1);
+        self.entries.insert(at, Entry::of(spot, mask));
+        self.counts[unit] += 1;
+    }
+
+    /// Puts a log sector that was found on a chip behind the unit's others, of which there are fewer
+    /// than 16, with the pages that it names. Its place is in use then. Where it would be a third
+    /// one, it answers false, and nothing changes: there is no room for what stands in more than two.
+    /// That none behind it in its place was found before is a condition.
+    pub fn find(&mut self, unit: u32, spot: Spot, mask: u16) -> bool
+        requires unit { unit < length self.old.spots }
+        requires few { length (spots_in self.old unit) < OVERFLOW_SECTORS }
+        requires place { spot.place < self.old.places }
+        requires sector { (1 ≤ spot.sector) × (spot.sector < 256) }
+        requires clean { AreUnused self.old.in_use spot.place spot.sector }
+        ensures finds { self.new ≡ after_find self.old unit spot.place spot.sector mask }
+        ensures room { result ≡ has_room_for self.old spot.place }
+    {
+        if !has_place(self.in_use.as_slice(), spot.place) {
+            if !self.may_add() {
+                return false;
+            }
+            self.add_place(spot.place);
+        }
+        self.add(unit, spot, mask);
+        true
     }
 
     /// The unit has no spots any more, and a place that no spot of another unit names isn't in use
@@ -180,35 +215,12 @@ impl Overflow {
         ensures dropped { self.new ≡ after_drop self.old unit }
         ensures left { listed result ≡ places_left self.old unit }
     {
-        let list = &mut self.spots[unit as usize];
-        list.clear();
-        let masks = &mut self.masks[unit as usize];
-        masks.clear();
-        let left = places_left(&self.spots, self.in_use.as_slice());
-        keep_named(&self.spots, &mut self.in_use);
+        let unit = unit as usize;
+        let from = first_of(&self.counts, unit);
+        cut(&mut self.entries, from, usize::from(self.counts[unit]));
+        self.counts[unit] = 0;
+        let left = places_left(&self.entries, self.in_use.as_slice());
+        keep_named(&self.entries, &mut self.in_use);
         left
-    }
-}
-
-/// Makes it a list of so many units without spots. It takes no memory: that there is room is a
-/// condition.
-fn clear_spots(spots: &mut BoundedVec<SpotList>, units: u32)
-    requires { units ≤ spots.old.room }
-    ensures { spots.new ≡ with_items spots.old (replicate units []) }
-{
-    spots.clear();
-    for _ in 0..units {
-        spots.push(SpotList::new());
-    }
-}
-
-/// The same, without masks.
-fn clear_masks(masks: &mut BoundedVec<MaskList>, units: u32)
-    requires { units ≤ masks.old.room }
-    ensures { masks.new ≡ with_items masks.old (replicate units []) }
-{
-    masks.clear();
-    for _ in 0..units {
-        masks.push(MaskList::new());
     }
 }

@@ -3,9 +3,10 @@ ghost use Rattle.std.specs.Prelude.{◌≡◌, ◌≤◌, ◌<◌, length, map, 
 ghost use Rattle.std.specs.List.{filter};
 ghost use Rattle.std.specs.Option.{option_map};
 ghost use Rattle.ipl_meaning.specs.Tables.{place_of};
-ghost use Rattle.overflow.specs.Lists.{pair_of, first_of, is_named, is_kept, is_left, left_of, listed, clean_behind, lower_spot, first_spot};
+ghost use Rattle.overflow.specs.Lists.{pair_of, first_of, left_of, listed, clean_behind, lower_spot, first_spot, names_place, as_used};
+ghost use Rattle.overflow.specs.Parted.{spot_of, keeps, leaves};
 
-use crate::spots::SpotList;
+use crate::entries::{Entry, is_named};
 use arrayvec::ArrayVec;
 use ipl_base::{OVERFLOW_PLACES, SECTORS, Spot};
 
@@ -14,13 +15,6 @@ use ipl_base::{OVERFLOW_PLACES, SECTORS, Spot};
 pub struct PlaceInUse {
     pub place: u32,
     pub first: u32,
-}
-
-/// Whether a spot of some unit stands in a place.
-pub(crate) fn is_named(spots: &[SpotList], place: u32) -> bool
-    ensures { result ≡ is_named spots.now place }
-{
-    spots.iter().any(|list| list.names(place))
 }
 
 /// The lower of two spots by their places, the second being the first clean sector of a place that
@@ -77,39 +71,63 @@ pub fn use_spot(places: &mut [PlaceInUse], spot: Spot)
     }
 }
 
-/// The place, where no spot names it.
-fn left_of(spots: &[SpotList], place: Option<&PlaceInUse>) -> Option<u32>
-    ensures { result ≡ left_of spots.now (option_map (λ it. it.now.place) place.entry) }
+/// No sector of these places is known clean any more.
+pub(crate) fn use_all(places: &mut [PlaceInUse])
+    ensures { map first_of places.new ≡ map as_used (map first_of places.old) }
+{
+    for place in places.iter_mut() {
+        *place = PlaceInUse {
+            place: place.place,
+            first: SECTORS,
+        };
+    }
+}
+
+/// Whether one of them is this place.
+pub(crate) fn has_place(places: &[PlaceInUse], place: u32) -> bool
+    ensures { result ≡ names_place place (map first_of places.now) }
+{
+    for it in places {
+        if it.place == place {
+            return true;
+        }
+    }
+    false
+}
+
+/// The place, where no entry is of it.
+fn left_of(entries: &[Entry], place: Option<&PlaceInUse>) -> Option<u32>
+    ensures { result ≡ left_of (map spot_of entries.now) (option_map (λ it. it.now.place) place.entry) }
 {
     let it = place?;
-    if is_named(spots, it.place) {
+    if is_named(entries, it.place) {
         return None;
     }
     Some(it.place)
 }
 
-/// Of at most two places those that no spot names.
-pub(crate) fn places_left(spots: &[SpotList], places: &[PlaceInUse]) -> [Option<u32>; 2]
+/// Of at most two places those that no entry is of.
+pub(crate) fn places_left(entries: &[Entry], places: &[PlaceInUse]) -> [Option<u32>; 2]
     requires { length places.now ≤ 2 }
     ensures { listed result
-        ≡ filter (is_left spots.now) (map place_of (map first_of places.now)) }
+        ≡ filter (leaves (map spot_of entries.now)) (map place_of (map first_of places.now)) }
 {
     [
-        left_of(spots, places.first()),
-        left_of(spots, places.get(1)),
+        left_of(entries, places.first()),
+        left_of(entries, places.get(1)),
     ]
 }
 
-/// Keeps the places that a spot names.
-pub(crate) fn keep_named(spots: &[SpotList], places: &mut ArrayVec<PlaceInUse, OVERFLOW_PLACES>)
+/// Keeps the places that an entry is of.
+pub(crate) fn keep_named(entries: &[Entry], places: &mut ArrayVec<PlaceInUse, OVERFLOW_PLACES>)
     requires { length places.old.items ≤ 2 }
     ensures named { map first_of places.new.items
-        ≡ filter (is_kept spots.now) (map first_of places.old.items) }
+        ≡ filter (keeps (map spot_of entries.now)) (map first_of places.old.items) }
     ensures few { length places.new.items ≤ 2 }
 {
     let mut kept = ArrayVec::new();
     for place in places.as_slice() {
-        if is_named(spots, place.place) {
+        if is_named(entries, place.place) {
             kept.push(*place);
         }
     }

@@ -9,7 +9,7 @@ use Rattle.ipl_meaning.specs.TableSteps.{after_overflow_log, with_next, with_nex
 use Rattle.ipl_meaning.proofs.CountedLemmas.{same_places}
 use Rattle.ipl_meaning.proofs.KnownLogLemmas.{counted_few}
 use Rattle.unit_directory.specs.Directory.{IsSoundDirectory}
-use Rattle.overflow.specs.Lists.{IsPlaceOf, IsSoundOverflow, after_add}
+use Rattle.overflow.specs.Lists.{IsPlaceOf, IsUnused, IsSoundOverflow, after_add}
 use Rattle.overflow.specs.Laws.{FirstSpotsAreAdded}
 use Rattle.place_taking.specs.Homes.{KeepsHomes}
 use Rattle.place_taking.proofs.HomeLemmas.{homes_same, homes_then}
@@ -54,6 +54,12 @@ elsewhere_within t u p s (inr over) other overflow = (
       over.first,
   over.within.1,
 )
+
+-- and isn't used yet
+pub elsewhere_unused : (t : Tables) (u p s : ℕ) → IsSpotFor t u p s → ¬ IsHomeSpot t u p s
+    → IsUnused t.overflow.in_use p s
+elsewhere_unused t u p s (inl home) other = absurd (other home)
+elsewhere_unused t u p s (inr over) other = (s, over.first, omega arith)
 
 -- it stays one where a number is drawn
 pub spot_drawn : (t : Tables) (n u p s : ℕ) → IsSpotFor t u p s → IsSpotFor (with_next t n) u p s

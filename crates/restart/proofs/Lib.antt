@@ -28,6 +28,7 @@ pub mod FaultLemmas
 pub mod TidyLemmas
 pub mod RenewalWornLemmas
 pub mod SecuringLemmas
+mod InUseLemmas
 pub mod JoinLemmas
 pub mod KeepsLemmas
 pub mod WriteLemmas

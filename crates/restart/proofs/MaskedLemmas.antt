@@ -7,13 +7,14 @@ use Rattle.ipl_format.specs.Sector.{Sector}
 use Rattle.log_records.specs.Reading.{records_of}
 use Rattle.ipl_meaning.specs.Masks.{mask_of}
 use Rattle.ipl_meaning.specs.Tables.{Places, OverflowLists, masks_in, with_mask}
-use Rattle.overflow.specs.Lists.{spots_in, masks_at, empty_lists, IsSoundOverflow}
+use Rattle.overflow.specs.Lists.{spots_in, masks_at, empty_lists, has_room_for, IsSoundOverflow}
 use Rattle.unit_directory.specs.Directory.{IsSoundDirectory}
 use Rattle.ipl_meaning.specs.Chosen.{KeptHeader, Winner}
 use Rattle.ipl_meaning.specs.Live.{kept, is_live, is_log_spot, is_overflow_place}
 use Rattle.ipl_meaning.specs.FoundLogs.{mask_of_sector}
 use Rattle.restart.specs.Notes.{listed}
 use Rattle.restart.specs.Masked.{masked, mask_below, NoneNamed, IsMasked}
+use Rattle.restart.proofs.ListedLemmas.{found_lists, left_out}
 use Rattle.restart.proofs.LogLemmas.{spot_of}
 
 -- ---- the number k and those before it
@@ -114,34 +115,47 @@ module _ (heads : ℕ → Option KeptHeader) (current : ℕ → Option Winner) (
             home = λ u t winner there none least most.
                 ap (λ (d : Places). get_or (masks_in d u) (t - 241) 0) same ∙ so_far.home u t winner there none least most
                 ∙ below_step k (winner.place * 256 + t) (found u (winner.place * 256 + t)) (apart here winner t none most);
-            elsewhere = λ u.
-                let f : ℕ × ℕ → ℕ = λ spot. found u (spot.0 * 256 + spot.1) in
-                elim (cases_eq sector.unit u) [
-                  | inl mine ↦
-                      let new : after ≡ listed true lists sector.unit p s mask = rw here at after_is in
-                      let masks : masks_at after u ≡ masks_at lists u ++ mask ∷ [] =
-                      ap (λ (l : OverflowLists). masks_at l u) new
-                      ∙ ap (λ (v : ℕ). get_or (set lists.masks sector.unit (masks_at lists sector.unit ++ mask ∷ [])) v []) (sym mine)
-                      ∙ get_or-set_same lists.masks sector.unit (masks_at lists sector.unit ++ mask ∷ []) [] (omega (arith, low, listed_units, sound_lists.lists))
-                      ∙ ap (λ (v : ℕ). masks_at lists v ++ mask ∷ []) mine in
-                      let spots : spots_in after u ≡ spots_in lists u ++ (p, s) ∷ [] =
-                      ap (λ (l : OverflowLists). spots_in l u) new
-                      ∙ ap (λ (v : ℕ). get_or (set lists.spots sector.unit (spots_in lists sector.unit ++ (p, s) ∷ [])) v []) (sym mine)
-                      ∙ get_or-set_same lists.spots sector.unit (spots_in lists sector.unit ++ (p, s) ∷ []) [] (omega (arith, low, listed_units))
-                      ∙ ap (λ (v : ℕ). spots_in lists v ++ (p, s) ∷ []) mine in
-                      masks ∙ ap₂ (λ (xs : List ℕ) (m : ℕ). xs ++ m ∷ []) (so_far.elsewhere u) (sym (own u mine))
-                      ∙ sym (map-append f (spots_in lists u) ((p, s) ∷ [])) ∙ ap (map f) (sym spots)
-                  | inr other ↦
-                      let new : after ≡ listed true lists sector.unit p s mask = rw here at after_is in
-                      let masks : masks_at after u ≡ masks_at lists u =
-                      ap (λ (l : OverflowLists). masks_at l u) new
-                      ∙ get_or-set_other lists.masks sector.unit u (masks_at lists sector.unit ++ mask ∷ []) [] (λ e. other (sym e)) in
-                      let spots : spots_in after u ≡ spots_in lists u =
-                      ap (λ (l : OverflowLists). spots_in l u) new
-                      ∙ get_or-set_other lists.spots sector.unit u (spots_in lists sector.unit ++ (p, s) ∷ []) [] (λ e. other (sym e)) in
-                      masks ∙ so_far.elsewhere u ∙ ap (map f) (sym spots)
-                ];
+            elsewhere = λ u. elim (cases_Bool (has_room_for lists p)) [
+              | inl room ↦ in_lists (rw here at after_is) room u
+              | inr none ↦
+                  let f : ℕ × ℕ → ℕ = λ spot. found u (spot.0 * 256 + spot.1) in
+                  let new : after ≡ listed true lists sector.unit p s mask = rw here at after_is in
+                  let same_lists : after ≡ lists = new ∙ left_out lists sector.unit p s mask none in
+                  ap (λ (l : OverflowLists). masks_at l u) same_lists ∙ so_far.elsewhere u
+                  ∙ ap (λ (l : OverflowLists). map f (spots_in l u)) (sym same_lists)
+            ];
           }
+        where
+          in_lists : after ≡ listed true lists sector.unit p s mask → has_room_for lists p ≡ true → (u : ℕ)
+              → masks_at after u ≡ map (λ spot. found u (spot.0 * 256 + spot.1)) (spots_in after u)
+          in_lists new room u =
+              let f : ℕ × ℕ → ℕ = λ spot. found u (spot.0 * 256 + spot.1) in
+              let (spots_are, masks_are) = found_lists lists sector.unit p s mask room in
+              let all_masks = ap (λ (l : OverflowLists). get_or l.masks u []) new ∙ ap (λ (ms : List (List ℕ)). get_or ms u []) masks_are in
+              let all_spots = ap (λ (l : OverflowLists). get_or l.spots u []) new ∙ ap (λ (ms : List (List (ℕ × ℕ))). get_or ms u []) spots_are in
+              elim (cases_eq sector.unit u) [
+                | inl mine ↦
+                    let masks : masks_at after u ≡ masks_at lists u ++ mask ∷ [] =
+                    all_masks
+                    ∙ ap (λ (v : ℕ). get_or (set lists.masks sector.unit (masks_at lists sector.unit ++ mask ∷ [])) v []) (sym mine)
+                    ∙ get_or-set_same lists.masks sector.unit (masks_at lists sector.unit ++ mask ∷ []) [] (omega (arith, low, listed_units, sound_lists.lists))
+                    ∙ ap (λ (v : ℕ). masks_at lists v ++ mask ∷ []) mine in
+                    let spots : spots_in after u ≡ spots_in lists u ++ (p, s) ∷ [] =
+                    all_spots
+                    ∙ ap (λ (v : ℕ). get_or (set lists.spots sector.unit (spots_in lists sector.unit ++ (p, s) ∷ [])) v []) (sym mine)
+                    ∙ get_or-set_same lists.spots sector.unit (spots_in lists sector.unit ++ (p, s) ∷ []) [] (omega (arith, low, listed_units))
+                    ∙ ap (λ (v : ℕ). spots_in lists v ++ (p, s) ∷ []) mine in
+                    masks ∙ ap₂ (λ (xs : List ℕ) (m : ℕ). xs ++ m ∷ []) (so_far.elsewhere u) (sym (own u mine))
+                    ∙ sym (map-append f (spots_in lists u) ((p, s) ∷ [])) ∙ ap (map f) (sym spots)
+                | inr other ↦
+                    let masks : masks_at after u ≡ masks_at lists u =
+                    all_masks
+                    ∙ get_or-set_other lists.masks sector.unit u (masks_at lists sector.unit ++ mask ∷ []) [] (λ e. other (sym e)) in
+                    let spots : spots_in after u ≡ spots_in lists u =
+                    all_spots
+                    ∙ get_or-set_other lists.spots sector.unit u (spots_in lists sector.unit ++ (p, s) ∷ []) [] (λ e. other (sym e)) in
+                    masks ∙ so_far.elsewhere u ∙ ap (map f) (sym spots)
+              ]
 
       at_home : over ≡ false → IsMasked heads current found (k + 1) now after
       at_home here =

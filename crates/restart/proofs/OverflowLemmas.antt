@@ -1,37 +1,18 @@
 -- The overflow lists, filled place by place.
-use Rattle.std.proofs.Common.{◌≡◌, inl, inr, ◌≤◌, ◌<◌, ◌+◌, ◌*◌, ℕ, zero, suc, Bool, true, cond, List, [], length, get_or, Option, Some, None, refl, sym, ◌∙◌, ap, arith}
-use Rattle.std.proofs.lemmas.Bool.{cases_eq}
+use Rattle.std.proofs.Common.{◌≡◌, ◌<◌, ◌*◌, ℕ, zero, suc, Bool, false, cond, List, [], length, get_or, Option, Some, None, refl, sym, ◌∙◌, ap, arith}
 use Rattle.ipl_meaning.specs.Chart.{Chart}
 use Rattle.ipl_meaning.specs.Tables.{OverflowLists}
 use Rattle.overflow.specs.Lists.{spots_in}
-use Rattle.ipl_meaning.specs.First.{at, all_below, count_below}
+use Rattle.ipl_meaning.specs.First.{at, all_below}
 use Rattle.ipl_meaning.specs.Chosen.{KeptHeader, Winner, header_at, current_at}
 use Rattle.ipl_meaning.specs.Live.{mark_at, marks, marks_in}
 use Rattle.ipl_meaning.specs.Faults.{holds_live}
-use Rattle.ipl_meaning.proofs.FirstLemmas.{count_step}
 use Rattle.ipl_meaning.specs.FoundLogs.{spots_below, overflow_at}
 use Rattle.ipl_meaning.specs.Opened.{IsOpenedOverflow}
-use Rattle.ipl_meaning.proofs.SpotLemmas.{as_many}
 use Rattle.restart.specs.Notes.{Notes, IsNoted}
 use Rattle.restart.specs.Shown.{ShowsHeaders, is_held}
 use Rattle.restart.proofs.ListedLemmas.{spots_all}
 use Rattle.restart.proofs.OpenLemmas.{held_is, to_chart}
-
-count_up : (f : ℕ → Bool) (k n : ℕ) → k ≤ n → count_below f k ≤ count_below f n
-count_up f k zero low = let same : k ≡ 0 = omega arith in rw same (omega arith)
-count_up f k (suc n) low = elim (cases_eq k (suc n)) [
-  | inl same ↦ rw same (omega arith)
-  | inr other ↦ let before = count_up f k n (omega arith) in omega (arith, before, count_step f n)
-]
-
--- a place that is held has room
-pub room_for : (held : ℕ → Bool) (k n : ℕ) (in_use : List (ℕ × ℕ)) → in_use ≡ all_below (overflow_at held) k → k < n
-    → count_below held n ≤ 2 → held k ≡ true → length in_use < 2
-room_for held k n in_use is low two here =
-    let size = as_many held k in_use is in
-    let one : count_below held (k + 1) ≡ count_below held k + 1 = rw here at (count_step held k) in
-    let most = count_up held (k + 1) n (omega arith) in
-    omega (arith, size, one, most)
 
 all_alike : {A : Type 0} (f g : ℕ → Option A) (n : ℕ) → ((k : ℕ) → k < n → f k ≡ g k) → all_below f n ≡ all_below g n
 all_alike f g zero same = refl
@@ -43,11 +24,11 @@ module _ (c : Chart) (places : ℕ) (heads : List (Option KeptHeader)) (current 
   abbrev of_chart : ℕ → Bool
   of_chart = holds_live (header_at c places) (marks_in c places (places * 256))
 
-  spots_found : (u : ℕ) → spots_in found u ≡ spots_below (header_at c places) (current_at c places) c u (places * 256)
-  spots_found u =
+  spots_found : notes.left ≡ false → (u : ℕ) → spots_in found u ≡ spots_below (header_at c places) (current_at c places) c u (places * 256)
+  spots_found none u =
       to_chart c places heads current status shows
       (λ h cur st. spots_in found u ≡ spots_below h cur c u (places * 256))
-      (noted.spots u ∙ sym (spots_all u (mark_at (at heads) (at current) c) (places * 256)))
+      (noted.spots none u ∙ sym (spots_all u (mark_at (at heads) (at current) c) (places * 256)))
 
   held_found : (p : ℕ) → is_held heads notes p ≡ of_chart p
   held_found p =
@@ -56,13 +37,13 @@ module _ (c : Chart) (places : ℕ) (heads : List (Option KeptHeader)) (current 
       (held_is heads notes found (marks (at heads) (at current) c (places * 256)) noted p)
 
   -- the lists, as an opening finds them
-  pub opened_overflow : (lists : OverflowLists) → length found.spots ≡ length current
+  pub opened_overflow : (lists : OverflowLists) → notes.left ≡ false → length found.spots ≡ length current
       → length heads ≡ places → lists.places ≡ places → lists.spots ≡ found.spots
       → lists.in_use ≡ all_below (overflow_at (is_held heads notes)) (length heads) → IsOpenedOverflow places c lists
-  opened_overflow lists size all places_are same in_use = record {
+  opened_overflow lists none size all places_are same in_use = record {
     places_are = places_are;
     units = ap length same ∙ size ∙ shows.units_are;
-    spots_are = λ u low. ap (λ (xs : List (List (ℕ × ℕ))). get_or xs u []) same ∙ spots_found u;
+    spots_are = λ u low. ap (λ (xs : List (List (ℕ × ℕ))). get_or xs u []) same ∙ spots_found none u;
     in_use_are = in_use ∙ ap (all_below (overflow_at (is_held heads notes))) all
         ∙ all_alike (overflow_at (is_held heads notes)) (overflow_at of_chart) places
         (λ p low. ap (λ (b : Bool). let o : Option (ℕ × ℕ) = cond b (Some (p, 256)) None in o) (held_found p));

@@ -1,5 +1,5 @@
 -- Log sectors are read where they may stand, in rising order of place and sector: what that takes and leaves.
-use Rattle.std.specs.Prelude.{ℕ, ◌≡◌, ◌<◌, ◌+◌, ◌*◌, Bool, false, true, List, length, Option, Some, Result, OnOk, IfOk, IfErr}
+use Rattle.std.specs.Prelude.{ℕ, ◌≡◌, ◌<◌, ◌≤◌, ◌+◌, ◌*◌, Bool, false, true, List, length, Option, Some, Result, OnOk, IfOk, IfErr}
 use Rattle.std.specs.Option.{option_map}
 use Rattle.chip_trait.specs.Story.{Contents}
 use Rattle.chip_trait.specs.Told.{Told}
@@ -12,12 +12,15 @@ use Rattle.ipl_meaning.specs.First.{at, with_one}
 use Rattle.ipl_meaning.specs.Live.{Mark, kept, mark_of, is_live, is_log_spot}
 use Rattle.ipl_meaning.specs.FoundLogs.{mask_of_sector}
 use Rattle.ipl_meaning.specs.Faults.{TellsImageFault, is_image, is_told, log_fault, log_test}
+use Rattle.ipl_base.specs.declared.limits.TheConstants.{OVERFLOW_SECTORS}
+use Rattle.ipl_meaning.specs.Tables.{Places, OverflowLists}
+use Rattle.overflow.specs.Lists.{spots_in, AreUnused}
 use Rattle.restart.specs.declared.collecting.Gathered.{Gathered}
 use Rattle.restart.specs.declared.findings.Findings.{Findings}
 use Rattle.restart.specs.declared.findings.Heads.{Heads}
 use Rattle.restart.specs.Collected.{records_at, AreKept}
 use Rattle.restart.specs.Joins.{joined, kept_of}
-use Rattle.restart.specs.Notes.{AreSized, IsNoted, FitsNotes}
+use Rattle.restart.specs.Notes.{Notes, units_of, overflow_count_of, AreSized, IsNoted, FitsNotes}
 use Rattle.restart.specs.Masked.{SamePlaces, IsMasked}
 use Rattle.restart.specs.Counted.{SameHomes, StaysUnknown, AreHomes, AreReadLogs}
 use Rattle.restart.specs.Scanned.{IsScanned}
@@ -37,13 +40,8 @@ live_found heads p found = kept (is_live (at heads.all.now) (at heads.current.no
 pub record HaveRoom (heads : Heads) (k : ℕ) (it : Findings) : Type 0 where
   pub sized : AreSized (length heads.current.now) (length heads.all.now) it.noted.now it.overflow.now
   pub units : length it.directory.now.current ≡ length heads.current.now
-  pub roomy : FitsNotes (at heads.current.now) k it.noted.now it.overflow.now
+  pub roomy : FitsNotes heads.all.now (at heads.current.now) k it.noted.now it.overflow.now
   pub flags : it.numbers.now.room ≡ it.status.now.most
-
--- they are of these places and units still; and where it is done, with room from the number k on
-pub record KeepRoom {T E : Type 0} (result : Result T E) (heads : Heads) (k : ℕ) (it : Findings) : Type 0 where
-  pub roomy : OnOk result (FitsNotes (at heads.current.now) k it.noted.now it.overflow.now)
-  pub sized : AreSized (length heads.current.now) (length heads.all.now) it.noted.now it.overflow.now
 
 -- the same tables and notes are filled still
 pub record SameReferences (old new : Findings) : Type 0 where
@@ -58,6 +56,25 @@ pub record StillFills (old new : Findings) : Type 0 where
   pub references : SameReferences old new
   pub status : new.status.now ≡ old.status.now
   pub flags : new.numbers.now.room ≡ old.numbers.now.room
+
+-- a log sector of the unit may be listed: the tables are of as many units, and of so many places
+pub record MayList (unit places : ℕ) (notes : Notes) (it : Places) (lists : OverflowLists) : Type 0 where
+  pub noted : unit < units_of notes
+  pub listed : unit < length lists.spots
+  pub units : length it.current ≡ length lists.spots
+  pub places_are : lists.places ≡ places
+
+-- and it may in an overflow place: none from the sector on is used there, and the unit has fewer than 16 elsewhere
+pub record MayFind (unit p s : ℕ) (notes : Notes) (lists : OverflowLists) : Type 0 where
+  pub few : overflow_count_of notes unit < OVERFLOW_SECTORS
+  pub fewer : length (spots_in lists unit) < OVERFLOW_SECTORS
+  pub least : 1 ≤ s
+  pub clean : AreUnused lists.in_use p s
+
+-- they are of these places and units still; and where it is done, with room from the number k on
+pub record KeepRoom {T E : Type 0} (result : Result T E) (heads : Heads) (k : ℕ) (it : Findings) : Type 0 where
+  pub roomy : OnOk result (FitsNotes heads.all.now (at heads.current.now) k it.noted.now it.overflow.now)
+  pub sized : AreSized (length heads.current.now) (length heads.all.now) it.noted.now it.overflow.now
 
 -- what was found at the number k, a live log sector or none, is tested, and then noted and listed, with the pages that
 -- it names

@@ -1,5 +1,5 @@
 -- What is read beyond the headers, by these: what that takes, and what is found.
-use Rattle.std.specs.Prelude.{ℕ, ◌≡◌, ◌<◌, ◌≤◌, ◌*◌, ◌^◌, Bool, true, false, [], length, Some}
+use Rattle.std.specs.Prelude.{ℕ, ◌≡◌, ◌<◌, ◌≤◌, ◌*◌, ◌^◌, Bool, true, false, length, Some}
 use Rattle.chip_trait.specs.Told.{Told}
 use Rattle.ipl_base.specs.Places.{KeepsUnits}
 use Rattle.ipl_meaning.specs.Chart.{chart_of}
@@ -13,7 +13,7 @@ use Rattle.restart.specs.declared.findings.Aim.{Aim}
 use Rattle.restart.specs.declared.findings.Findings.{Findings}
 use Rattle.restart.specs.declared.findings.Heads.{Heads}
 use Rattle.restart.specs.Bytes.{IsRestWhole}
-use Rattle.restart.specs.Notes.{NotesHaveRoom, AreSized, IsNoted}
+use Rattle.restart.specs.Notes.{NotesHaveRoom, AreSized, AreInUse, IsNoted}
 use Rattle.restart.specs.Masked.{NoneNamed, mask_by, IsMasked}
 use Rattle.restart.specs.Joins.{kept_of}
 use Rattle.restart.specs.Collected.{numbers_below, AreKept}
@@ -59,8 +59,8 @@ pub record FindsRest (places : ℕ) (told : Told) (marks : Bool) (heads : Heads)
   pub whole : OfContents told (λ x. IsRestWhole x places heads.all.now heads.current.now winner)
 
 -- Whatever the chip tells: nothing is known of log sectors where marks don't count, no sector of the status place is
--- known clean, numbers are left where some will be drawn, at most two overflow places hold live log sectors, none is
--- in use yet, and all is of so many places.
+-- known clean, numbers are left where some will be drawn, at most two overflow places hold live log sectors, these are
+-- in use, and all is of so many places.
 pub record FillsTables (places : ℕ) (heads : Heads) (winner : Winner) (aim : Aim) (greatest : ℕ) (it : Findings)
     : Type 0 where
   pub unmarked : aim.marks ≡ false → NoneKnown (length heads.current.now) it.directory.now
@@ -68,5 +68,5 @@ pub record FillsTables (places : ℕ) (heads : Heads) (winner : Winner) (aim : A
   pub unclean : it.status.now.first ≡ 256
   pub left : aim.draws ≡ true → greatest < 2 ^ 63
   pub two : count_below (is_held heads.all.now it.noted.now) (length heads.all.now) ≤ 2
-  pub none : it.overflow.now.in_use ≡ []
+  pub in_use : AreInUse heads.all.now it.noted.now it.overflow.now
   pub sized : AreSized (length heads.current.now) places it.noted.now it.overflow.now

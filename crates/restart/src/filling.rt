@@ -1,11 +1,10 @@
-//! The directory and the overflow lists are filled.
+//! The directory is filled.
 ghost use Rattle.std.specs.Prelude.{◌≡◌, ◌<◌, ◌≤◌, ◌+◌, ◌&&◌, ◌||◌, Bool, ℕ, [], true, length, if◌then◌else◌, Option, Some};
 ghost use Rattle.ipl_base.specs.declared.limits.TheConstants.{MOST_PLACES};
 ghost use Rattle.ipl_base.specs.Places.{KeepsUnits};
-ghost use Rattle.ipl_meaning.specs.First.{at, count_below, all_below, with_one};
+ghost use Rattle.ipl_meaning.specs.First.{at, count_below};
 ghost use Rattle.ipl_meaning.specs.Chosen.{Winner as Chosen};
 ghost use Rattle.ipl_meaning.specs.Live.{is_overflow_place};
-ghost use Rattle.ipl_meaning.specs.FoundLogs.{overflow_at};
 ghost use Rattle.restart.specs.Notes.{places_of, holds_one};
 ghost use Rattle.restart.specs.Shown.{is_held as is_held_place};
 ghost use Rattle.unit_layout.specs.Retired.{may_be_retired};
@@ -22,7 +21,6 @@ use crate::kept::{Header, Winner};
 use crate::live::is_overflow_place;
 use crate::noted::Noted;
 use ipl_format::word_at;
-use overflow::Overflow;
 use txn_status::LastMark;
 use unit_directory::Directory;
 
@@ -185,41 +183,5 @@ pub(crate) fn retire_listed(directory: &mut Directory, status: &HeadSector)
     let listed = status.listed();
     for i in 0..listed.len() / 4 {
         retire_free(directory, word_at(listed, 4 * i));
-    }
-}
-
-/// Lists a place, if it is an overflow place that holds live log sectors.
-fn list_place(overflow: &mut Overflow, heads: &[Option<Header>], noted: &Noted, place: u32)
-    requires heads { place < length heads.now }
-    requires places { place < places_of noted.now }
-    requires listed { overflow.old.places ≡ length heads.now }
-    requires room { is_held_place heads.now noted.now place ≡ true
-        → length overflow.old.in_use < 2 }
-    ensures in_use { overflow.new.in_use ≡ with_one overflow.old.in_use
-        (overflow_at (is_held_place heads.now noted.now) place) }
-    ensures spots { overflow.new.spots ≡ overflow.old.spots }
-    ensures masks { overflow.new.masks ≡ overflow.old.masks }
-    ensures places { overflow.new.places ≡ overflow.old.places }
-{
-    if is_held(heads, noted, place) {
-        overflow.adopt_place(place);
-    }
-}
-
-/// Lists the overflow places that hold live log sectors, at most two, with no sector known clean.
-pub(crate) fn list_places(overflow: &mut Overflow, heads: &[Option<Header>], noted: &Noted)
-    requires small { length heads.now ≤ MOST_PLACES }
-    requires places { places_of noted.now ≡ length heads.now }
-    requires listed { overflow.old.places ≡ length heads.now }
-    requires two { count_below (is_held_place heads.now noted.now) (length heads.now) ≤ 2 }
-    requires none { overflow.old.in_use ≡ [] }
-    ensures in_use { overflow.new.in_use
-        ≡ all_below (overflow_at (is_held_place heads.now noted.now)) (length heads.now) }
-    ensures spots { overflow.new.spots ≡ overflow.old.spots }
-    ensures masks { overflow.new.masks ≡ overflow.old.masks }
-    ensures places { overflow.new.places ≡ overflow.old.places }
-{
-    for place in 0..heads.len() {
-        list_place(overflow, heads, noted, place as u32);
     }
 }

@@ -15,12 +15,16 @@ ghost use Rattle.ipl_meaning.specs.Payloads.{is_log_payload};
 ghost use Rattle.ipl_meaning.specs.Faults.{TellsImageFault, is_image, is_told, log_test, log_fault, log_number};
 ghost use Rattle.unit_io.specs.ReadsAt.{IsAt};
 ghost use Rattle.restart.specs.Looks.{LooksOnce, HasCauseFor, MayHoldLog};
-ghost use Rattle.restart.specs.Notes.{units_of, AreSized, overflow_count_of, listed, IsNoted};
+ghost use Rattle.restart.specs.Notes.{units_of, AreSized, AreInUse, CountsLog, overflow_count_of, listed, IsNoted};
+ghost use Rattle.ipl_meaning.specs.Tables.{OverflowLists};
+ghost use Rattle.overflow.specs.Lists.{has_room_for};
 ghost use Rattle.restart.specs.Masked.{masked};
 ghost use Rattle.restart.specs.LogSpots.{
   live_found,
   AreScanned,
   HaveRoom,
+  MayFind,
+  MayList,
   JoinsRecords,
   MayScan,
   ReadsLogs,
@@ -43,11 +47,9 @@ use unit_directory::Directory;
 use unit_io::{Found, read_found};
 
 /// Tests a live log sector for its payload, and against those that were noted and listed.
-#[tactic(auto, using(crate::proofs::ListedLemmas::count_noted))]
 fn check_log(
     heads: &[Option<Header>],
     noted: &Noted,
-    overflow: &Overflow,
     spot: Spot,
     head: &Head,
     payload: &[u8],
@@ -55,19 +57,18 @@ fn check_log(
     requires place { spot.place < length heads.now }
     requires sector { spot.sector < 256 }
     requires unit { head.now.unit < units_of noted.now }
-    requires list { head.now.unit < length overflow.now.spots }
-    ensures fault { (marks : List Mark) → IsNoted noted.now overflow.now marks
+    ensures fault { (marks : List Mark) (lists : OverflowLists) → IsNoted noted.now lists marks
         → TellsImageFault (log_test (at heads.now) marks (spot.place * 256 + spot.sector)
         (Some (sector_of head.now payload.now))) result }
     ensures room { OnOk result (is_overflow_place (at heads.now spot.place) ≡ true
-        → overflow_count_of overflow.now head.now.unit < OVERFLOW_SECTORS) }
+        → overflow_count_of noted.now head.now.unit < OVERFLOW_SECTORS) }
     ensures list { OnOk result (is_log_payload head.now.version payload.now ≡ true) }
     ensures image { IfErr result (λ e. is_told false e ≡ true) }
 {
     if !is_log_payload(payload, head.version)
         || noted.has(head.unit, head.serial)
         || (is_overflow_place(heads, spot.place)
-            && overflow.count(head.unit) as usize >= OVERFLOW_SECTORS)
+            && noted.elsewhere(head.unit) as usize >= OVERFLOW_SECTORS)
     {
         return Err(ImageFault::Chip(ChipFault::Malformed {
             place: spot.place,
@@ -77,9 +78,11 @@ fn check_log(
     Ok(())
 }
 
-/// Keeps which pages a log sector of a unit names, and lists it, if it stands in an overflow place.
+/// Keeps which pages a log sector of a unit names; and lists and counts it, if it stands in an
+/// overflow place.
 fn list_log(
     heads: &[Option<Header>],
+    noted: &mut Noted,
     directory: &mut Directory,
     overflow: &mut Overflow,
     unit: u32,
@@ -88,19 +91,20 @@ fn list_log(
 )
     requires place { spot.place < length heads.now }
     requires sector { spot.sector < 256 }
-    requires unit { unit < length overflow.old.spots }
-    requires units { length directory.old.current ≡ length overflow.old.spots }
-    requires places { overflow.old.places ≡ length heads.now }
-    requires few { is_overflow_place (at heads.now spot.place) ≡ true
-        → overflow_count_of overflow.old unit < OVERFLOW_SECTORS }
+    requires units { MayList unit (length heads.now) noted.old directory.old overflow.old }
+    requires elsewhere { is_overflow_place (at heads.now spot.place) ≡ true
+        → MayFind unit spot.place spot.sector noted.old overflow.old }
     requires home { is_overflow_place (at heads.now spot.place) ≡ false → 241 ≤ spot.sector }
     ensures listed { overflow.new ≡ listed (is_overflow_place (at heads.now spot.place))
         overflow.old unit spot.place spot.sector mask }
+    ensures counted { CountsLog (is_overflow_place (at heads.now spot.place))
+        (has_room_for overflow.old spot.place) unit noted.old noted.new }
     ensures masked { directory.new ≡ masked (is_overflow_place (at heads.now spot.place))
         directory.old unit spot.sector mask }
 {
     if is_overflow_place(heads, spot.place) {
-        overflow.add(unit, spot, mask);
+        let listed = overflow.find(unit, spot, mask);
+        noted.count_elsewhere(unit, listed);
     } else {
         directory.set_mask(unit, spot.sector, mask);
     }
@@ -128,12 +132,13 @@ fn take_log(
         findings.directory.facts();
         findings.overflow.facts();
         let all = heads.all;
-        check_log(all, findings.noted, findings.overflow, spot, head, payload)?;
+        check_log(all, findings.noted, spot, head, payload)?;
         findings.noted.add(head.unit, head.serial, spot.place);
         let mask = pages_of(payload, head.version);
+        let noted = &mut *findings.noted;
         let directory = &mut *findings.directory;
         let overflow = &mut *findings.overflow;
-        list_log(all, directory, overflow, head.unit, spot, mask);
+        list_log(all, noted, directory, overflow, head.unit, spot, mask);
         let version = head.version;
         let fits = collect(findings.numbers, findings.status, payload, version, fits);
         return Ok(fits);
@@ -297,7 +302,7 @@ pub(crate) fn scan<C: Chip>(
     ensures fault { IfErr result (λ e. OfContents (C.told chip.old) (λ x. is_image e ≡ true
         → first_below (log_fault (at heads.now.all.now) (at heads.now.current.now) (chart_of x))
         (geometry.places * 256) ≡ Some e)) }
-    ensures none { OnOk result (findings.new.overflow.now.in_use ≡ []) }
+    ensures in_use { OnOk result (AreInUse heads.now.all.now findings.new.noted.now findings.new.overflow.now) }
     ensures sized { AreSized (length heads.now.current.now) geometry.places
         findings.new.noted.now findings.new.overflow.now }
     ensures logs { ReadsLogs result (C.told chip.old) heads.now 0 (geometry.places * 256)

@@ -29,7 +29,7 @@ ghost use Rattle.restart.specs.Shown.{ShowsHeaders, HeadersCount, fault_by};
 use crate::choosing::choose;
 use crate::collecting::Gathered;
 use crate::commits::read_commits;
-use crate::filling::{adopt_all, counted, fill_places, list_places, mark_units, retire_listed};
+use crate::filling::{adopt_all, counted, fill_places, mark_units, retire_listed};
 use crate::findings::{Aim, Findings, Heads};
 use crate::head_sector::HeadSector;
 use crate::headers::{check_headers, check_status};
@@ -155,7 +155,7 @@ fn read_chip<C: Chip>(
     let gathered = read_rest(chip, geometry, &read, &winner, findings, aim)?;
     fill_places(findings.directory, heads, &winner, findings.noted);
     retire_listed(findings.directory, &kept);
-    list_places(findings.overflow, heads, findings.noted);
+    findings.overflow.use_places();
     findings.directory.facts();
     findings.overflow.facts();
     Ok(gathered)

@@ -63,7 +63,8 @@ fn add_listed(spots: &mut ArrayVec<Spot, LIVE_SECTORS>, overflow: &Overflow, uni
 {
     let all = overflow.list(unit);
     let listed = all.as_slice();
-    let masks = overflow.masks(unit);
+    let all_masks = overflow.masks(unit);
+    let masks = all_masks.as_slice();
     for i in 0..listed.len() {
         if has_page(masks[i], page) {
             spots.push(listed[i]);

@@ -1,7 +1,7 @@
 use Rattle.std.proofs.Common.{◌∙◌, refl, ap, arith}
 use Rattle.ipl_meaning.specs.Tables.{Places, with_mask}
 use Rattle.selective_merge.specs.Moving.{tables_of}
-use Rattle.page_frames.proofs.SpotLemmas.{after_home, after_overflow, elsewhere_within}
+use Rattle.page_frames.proofs.SpotLemmas.{after_home, after_overflow, elsewhere_unused, elsewhere_within}
 use Rattle.page_frames.proofs.records.use_spot.Goals as goal
 
 pub add-requires-clause-few : goal.add-requires-clause-few
@@ -18,6 +18,11 @@ pub add-requires-clause-sector : goal.add-requires-clause-sector
 add-requires-clause-sector c =
     (elsewhere_within (tables_of c.args.parts.now) c.args.unit c.args.spot.place c.args.spot.sector
     c.requires.spot (c.if-is_home.ensures.other refl) c.facts.ensures).2
+
+pub add-requires-clause-clean : goal.add-requires-clause-clean
+add-requires-clause-clean c =
+    elsewhere_unused (tables_of c.args.parts.now) c.args.unit c.args.spot.place c.args.spot.sector
+    c.requires.spot (c.if-is_home.ensures.other refl)
 
 pub returns-else-is_home : goal.returns-else-is_home
 returns-else-is_home c =

@@ -11,7 +11,7 @@ use Rattle.restart.proofs.LookLemmas.{reads_none, reads_then, looks_then, looks_
 use Rattle.restart.specs.Counted.{AreReadLogs}
 use Rattle.restart.proofs.CountedLogLemmas.{homes_then, unknown_then}
 use Rattle.restart.proofs.FillsLemmas.{still_then}
-use Rattle.restart.proofs.LogLemmas.{at_low, respelled}
+use Rattle.restart.proofs.LogLemmas.{at_low, respelled, fits_first}
 use Rattle.restart.proofs.CollectedLemmas.{kept_first}
 use Rattle.restart.proofs.MaskedLemmas.{masked_first}
 use Rattle.unit_io.proofs.OnceLemmas.{once_none}
@@ -36,7 +36,7 @@ loop-place-init g c =
         whole = λ p s small low spot. absurd (omega (arith, low));
       };
       logs = λ x told mark homes start. start;
-      roomy = grind (arith, common_steps);
+      roomy = fits_first c.args.heads.now.all.now current c.clear.new.self c.set_units.new.self _ _ c.clear.ensures.empty c.set_units.ensures;
       sized = grind (arith, common_steps);
       still = search rules;
       unknown = λ u unknown. unknown;

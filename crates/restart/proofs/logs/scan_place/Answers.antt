@@ -21,7 +21,7 @@ loop-sector-preserved g c =
           subst (λ (k : ℕ). AreReadLogs x mark (at c.args.heads.now.current.now) (length c.args.heads.now.current.now) k c.scan_sector.new.findings.directory.now) one
           (c.in_ok-gathered.ensures.scans.logs.logs x (same.contents ∙ told) mark homes (c.loop-sector.invariant.logs x told mark homes start));
       roomy = let one : c.args.place * 256 + c.loop-sector.sector + 1 ≡ c.args.place * 256 + (c.loop-sector.sector + 1) = omega arith in
-          subst (λ (k : ℕ). FitsNotes (at c.args.heads.now.current.now) k c.scan_sector.new.findings.noted.now c.scan_sector.new.findings.overflow.now) one c.in_ok-gathered.ensures.scans.room.roomy;
+          subst (λ (k : ℕ). FitsNotes c.args.heads.now.all.now (at c.args.heads.now.current.now) k c.scan_sector.new.findings.noted.now c.scan_sector.new.findings.overflow.now) one c.in_ok-gathered.ensures.scans.room.roomy;
       sized = c.scan_sector.ensures.scans.room.sized;
       still = still_then c.loop-sector.invariant.still c.scan_sector.ensures.scans.logs.still;
       unknown = unknown_then c.args.findings.now.directory.now c.loop-sector.findings.directory.now c.scan_sector.new.findings.directory.now c.loop-sector.invariant.unknown c.scan_sector.ensures.scans.logs.unknown;
@@ -68,7 +68,7 @@ returns-clause-scans g c = record {
   scanned = search rules;
   fault = search rules;
   room = let all : c.args.place * 256 + c.loop-sector.sector ≡ (c.args.place + 1) * 256 = omega arith in record {
-    roomy = subst (λ (k : ℕ). FitsNotes (at c.args.heads.now.current.now) k c.loop-sector.findings.noted.now c.loop-sector.findings.overflow.now) all c.loop-sector.invariant.roomy;
+    roomy = subst (λ (k : ℕ). FitsNotes c.args.heads.now.all.now (at c.args.heads.now.current.now) k c.loop-sector.findings.noted.now c.loop-sector.findings.overflow.now) all c.loop-sector.invariant.roomy;
     sized = c.loop-sector.invariant.sized;
   };
   logs = record {

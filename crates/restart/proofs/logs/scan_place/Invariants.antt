@@ -21,7 +21,7 @@ invariant-loop-sector g l =
       logs : OfContents (told l.fn.chip) (λ x. (mark : Option Sector) → AreHomes (at l.heads.all.now) (at l.heads.current.now)
           → AreReadLogs x mark (at l.heads.current.now) (length l.heads.current.now) (l.place * 256) l.fn.findings.directory.now
           → AreReadLogs x mark (at l.heads.current.now) (length l.heads.current.now) (l.place * 256 + l.sector) l.findings.directory.now);
-      roomy : FitsNotes (at l.heads.current.now) (l.place * 256 + l.sector) l.findings.noted.now l.findings.overflow.now;
+      roomy : FitsNotes l.heads.all.now (at l.heads.current.now) (l.place * 256 + l.sector) l.findings.noted.now l.findings.overflow.now;
       sized : AreSized (length l.heads.current.now) (length l.heads.all.now) l.findings.noted.now l.findings.overflow.now;
       still : StillFills l.fn.findings l.findings;
       unknown : StaysUnknown l.fn.findings.directory.now l.findings.directory.now;

@@ -1,7 +1,8 @@
 use Rattle.std.proofs.Common.{Bool, Option, [], false, ◌≡◌, ◌<◌, ◌∙◌, ◌+◌, ◌*◌, ℕ, List, Some, take, get_or, refl, ap, arith, Ok, length, true, sym, subst}
 use Rattle.std.proofs.lemmas.List.{length-take-le}
 use Rattle.ipl_meaning.specs.Chart.{chart_of}
-use Rattle.ipl_meaning.specs.First.{at, count_below}
+use Rattle.ipl_meaning.specs.First.{at, all_below, count_below}
+use Rattle.ipl_meaning.specs.FoundLogs.{overflow_at}
 use Rattle.ipl_meaning.proofs.TellsLemmas.{tells_again}
 use Rattle.ipl_meaning.proofs.OpenedLemmas.{opened_tables_mirror}
 use Rattle.unit_layout.specs.Retired.{may_be_retired}
@@ -14,6 +15,7 @@ use Rattle.restart.proofs.CommitLemmas.{opened_status}
 use Rattle.restart.proofs.OpenLemmas.{AreFound, are_found, shows_found, status_low, current_low, are_homes, all_tells, used_of, opened, has_free, read_bytes, laid}
 use Rattle.restart.proofs.CountLemmas.{counted_of, header_kinds}
 use Rattle.restart.proofs.SpentLemmas.{header_unspent, tells_unspent, headers_tell_first, failed_bytes}
+use Rattle.restart.proofs.InUseLemmas.{none_left, used_in_use}
 use Rattle.restart.proofs.OverflowLemmas.{opened_overflow}
 use Rattle.restart.proofs.KnownLemmas.{knows_places}
 use Rattle.restart.proofs.FillLemmas.{used_still, adopted_then}
@@ -31,7 +33,7 @@ use Rattle.ipl_meaning.specs.Mirrors.{Mirrors}
 use Rattle.ipl_meaning.specs.LaidOut.{layout_in}
 use Rattle.unit_io.specs.Reads.{OfContents}
 use Rattle.restart.proofs.OnceLemmas.{headers_alone, all_once, status_unlogged}
-use Rattle.ipl_meaning.specs.Tables.{Tables}
+use Rattle.ipl_meaning.specs.Tables.{OverflowLists, Tables}
 use Rattle.selective_merge.specs.Known.{KnowsPlaces}
 use Rattle.ipl_meaning.specs.Chosen.{KeptHeader, Winner}
 use Rattle.restart.specs.Collected.{AreCollected}
@@ -170,7 +172,7 @@ listed g c = retired_of c.read_headers.new.kept
 
 -- the tables then
 abbrev made : (g : Over) (c : goal.After-facts-2 g) → Tables
-made g c = tables_of c.retire_listed.new.directory c.list_places.new.overflow c.read_rest.new.findings.status.now
+made g c = tables_of c.retire_listed.new.directory c.use_places.new.self c.read_rest.new.findings.status.now
     (c.in_ok-gathered.gathered.greatest + 1)
 
 count : (g : Over) (c : goal.After-facts-2 g) → AreFound c.args.geometry.places (heads g c) (current g c)
@@ -207,6 +209,23 @@ aside : (g : Over) (c : goal.After-facts-2 g) → AreAside c.fill_places.new.dir
 aside g c = subst (AreAside c.fill_places.new.directory (listed g c)) (sym c.retire_listed.ensures)
     (all_aside c.fill_places.new.directory (listed g c))
 
+-- the overflow places that hold live log sectors are in use, with no sector known clean; the lists are as they were
+in_use : (g : Over) (c : goal.After-facts-2 g) → c.use_places.new.self.in_use
+    ≡ all_below (overflow_at (is_held (heads g c) c.read_rest.new.findings.noted.now)) (length (heads g c))
+in_use g c =
+    let fills = c.in_ok-gathered.ensures.filled in
+    ap (λ (it : OverflowLists). it.in_use) c.use_places.ensures
+    ∙ used_in_use (heads g c) c.read_rest.new.findings.noted.now c.read_rest.new.findings.overflow.now fills.in_use fills.two
+
+same_spots : (g : Over) (c : goal.After-facts-2 g) → c.use_places.new.self.spots ≡ c.read_rest.new.findings.overflow.now.spots
+same_spots g c = ap (λ (it : OverflowLists). it.spots) c.use_places.ensures
+
+same_masks : (g : Over) (c : goal.After-facts-2 g) → c.use_places.new.self.masks ≡ c.read_rest.new.findings.overflow.now.masks
+same_masks g c = ap (λ (it : OverflowLists). it.masks) c.use_places.ensures
+
+same_places : (g : Over) (c : goal.After-facts-2 g) → c.use_places.new.self.places ≡ c.read_rest.new.findings.overflow.now.places
+same_places g c = ap (λ (it : OverflowLists). it.places) c.use_places.ensures
+
 -- by what the chip holds
 shows : (g : Over) (c : goal.After-facts-2 g) → OfContents (g.C.Chip.told c.args.chip.now)
     (λ x. ShowsHeaders (chart_of x) c.args.geometry.places (heads g c) (current g c) c.in_ok-winner.winner)
@@ -239,14 +258,16 @@ all_opened g c = λ x told.
     let winner = c.in_ok-winner.winner in
     let filled = c.fill_places.new.directory in
     let now = c.retire_listed.new.directory in
-    let lists = c.list_places.new.overflow in
+    let lists = c.use_places.new.self in
     let rest = c.in_ok-gathered.ensures.found in
     let sized = c.in_ok-gathered.ensures.filled.sized in
     let keeps = (aside g c).keeps in
     let overflow = opened_overflow (chart_of x) places (heads g c) (current g c) winner (shows g c x told)
     c.read_rest.new.findings.noted.now c.read_rest.new.findings.overflow.now (rest.noted x told_then) lists
-    sized.listed_units (omega arith) (c.list_places.ensures.places ∙ sized.listed_places) c.list_places.ensures.spots
-    c.list_places.ensures.in_use in record {
+    (none_left (heads g c) c.read_rest.new.findings.noted.now c.read_rest.new.findings.overflow.now
+    c.in_ok-gathered.ensures.filled.in_use c.in_ok-gathered.ensures.filled.two)
+    sized.listed_units (omega arith) (same_places g c ∙ sized.listed_places) (same_spots g c)
+    (in_use g c) in record {
       directory = opened (chart_of x) places (heads g c) (current g c) winner (shows g c x told)
           c.read_rest.new.findings.noted.now c.read_rest.new.findings.overflow.now (rest.noted x told_then) filled now (listed g c)
           c.read_headers.new.kept
@@ -265,8 +286,8 @@ all_opened g c = λ x told.
           (count g c).there (omega arith)
           c.read_rest.new.findings.directory.now now c.read_rest.new.findings.overflow.now lists c.facts.ensures c.facts-2.ensures
           (ap length keeps.current ∙ (adopted g c).units_are)
-          (ap length c.list_places.ensures.spots ∙ sized.listed_units)
-          (keeps.masks ∙ c.fill_places.ensures.same.masks) c.list_places.ensures.masks c.list_places.ensures.spots
+          (ap length (same_spots g c) ∙ sized.listed_units)
+          (keeps.masks ∙ c.fill_places.ensures.same.masks) (same_masks g c) (same_spots g c)
           overflow.spots_are
           (rest.masked x told_then);
       status = opened_status (chart_of x) places winner c.read_rest.new.findings.status.now (shows g c x told).status_is
@@ -293,12 +314,12 @@ known g c =
     let fills = c.in_ok-gathered.ensures.filled in
     knows_places (heads g c) (current g c) c.in_ok-winner.winner (count g c).chosen (count g c).there
     c.args.geometry.places (omega arith) c.read_rest.new.findings.noted.now
-    c.fill_places.new.directory c.list_places.new.overflow c.read_rest.new.findings.status.now _ _ (count g c).keeps (used g c)
+    c.fill_places.new.directory c.use_places.new.self c.read_rest.new.findings.status.now _ _ (count g c).keeps (used g c)
     (adopted g c)
-    (ap length c.list_places.ensures.spots ∙ fills.sized.listed_units) c.list_places.ensures.in_use fills.two
+    (ap length (same_spots g c) ∙ fills.sized.listed_units) (in_use g c) fills.two
     fills.placed
     c.retire_listed.new.directory (listed g c) (none g c) (aside g c)
-    (c.list_places.ensures.places ∙ fills.sized.listed_places)
+    (same_places g c ∙ fills.sized.listed_places)
 
 free : (g : Over) (c : goal.After-facts-2 g) → HasFree c.retire_listed.new.directory
 free g c =
@@ -324,12 +345,12 @@ marked g c = λ x told.
     let winner = c.in_ok-winner.winner in
     let keeps = (aside g c).keeps in
     counts_marked x c.args.geometry.places c.args.aim.marks (heads g c) (current g c) winner c.retire_listed.new.directory
-    c.list_places.new.overflow c.read_rest.new.findings.status.now
+    c.use_places.new.self c.read_rest.new.findings.status.now
     (c.in_ok-gathered.gathered.greatest + 1) (shows g c x told) (laid_out g c x told)
     (logs_made g c x told)
     (λ u low. ap (λ (xs : List ℕ). get_or xs u 0) keeps.current ∙ (adopted g c).current_is u low)
     (ap length keeps.current ∙ (adopted g c).units_are) (within g c)
-    (is_held (heads g c) c.read_rest.new.findings.noted.now) (length (heads g c)) c.list_places.ensures.in_use
+    (is_held (heads g c) c.read_rest.new.findings.noted.now) (length (heads g c)) (in_use g c)
     c.in_ok-gathered.ensures.filled.unclean
 
 -- where marks count, they are what the close mark says
@@ -344,7 +365,7 @@ knows : (g : Over) (c : goal.After-facts-2 g) → c.args.aim.marks ≡ true → 
     (λ x. KnowsWhole c.args.geometry.places x (made g c))
 knows g c = λ on x told.
     knows_whole x c.args.geometry.places (heads g c) (current g c) c.in_ok-winner.winner c.retire_listed.new.directory
-    c.list_places.new.overflow c.read_rest.new.findings.status.now
+    c.use_places.new.self c.read_rest.new.findings.status.now
     (c.in_ok-gathered.gathered.greatest + 1) (shows g c x told) (laid_out g c x told) (logs_marked g c on x told)
     (λ u low. ap (λ (xs : List ℕ). get_or xs u 0) (aside g c).keeps.current ∙ (adopted g c).current_is u low)
 
@@ -354,24 +375,24 @@ exact g c = λ on x told.
     let winner = c.in_ok-winner.winner in
     let keeps = (aside g c).keeps in
     counts_exactly x c.args.geometry.places (heads g c) (current g c) winner c.retire_listed.new.directory
-    c.list_places.new.overflow c.read_rest.new.findings.status.now
+    c.use_places.new.self c.read_rest.new.findings.status.now
     (c.in_ok-gathered.gathered.greatest + 1) (shows g c x told) (laid_out g c x told)
     (logs_marked g c on x told)
     (λ u low. ap (λ (xs : List ℕ). get_or xs u 0) keeps.current ∙ (adopted g c).current_is u low)
     (ap length keeps.current ∙ (adopted g c).units_are) (within g c)
-    (is_held (heads g c) c.read_rest.new.findings.noted.now) (length (heads g c)) c.list_places.ensures.in_use
+    (is_held (heads g c) c.read_rest.new.findings.noted.now) (length (heads g c)) (in_use g c)
     c.in_ok-gathered.ensures.filled.unclean
 
 none_marked : (g : Over) (c : goal.After-facts-2 g) → c.args.aim.marks ≡ false → IsUnmarked (made g c)
 none_marked g c = λ off.
     let keeps = (aside g c).keeps in
     let fills = c.in_ok-gathered.ensures.filled in
-    unmarked c.retire_listed.new.directory c.list_places.new.overflow c.read_rest.new.findings.status.now
+    unmarked c.retire_listed.new.directory c.use_places.new.self c.read_rest.new.findings.status.now
     (c.in_ok-gathered.gathered.greatest + 1)
     (is_held (heads g c) c.read_rest.new.findings.noted.now) (length (heads g c))
     (λ u low. ap (λ (ws : List ℕ). get_or ws u 0) (keeps.written ∙ c.fill_places.ensures.same.written)
     ∙ fills.unmarked off u (omega (arith, low, ap length keeps.current, (adopted g c).units_are)))
-    c.list_places.ensures.in_use fills.unclean
+    (in_use g c) fills.unclean
 
 pub returns-clause-found : goal.returns-clause-found
 returns-clause-found g c = record {
@@ -434,7 +455,7 @@ returns-clause-memory g c =
     record {
       size = omega (arith, keeps.all, used.all);
       table = c.read_headers.ensures.size;
-      room = (c.read_rest.ensures.memory.room.0, c.list_places.ensures.places ∙ c.read_rest.ensures.memory.room.1);
+      room = (c.read_rest.ensures.memory.room.0, (same_places g c) ∙ c.read_rest.ensures.memory.room.1);
       numbers = record { most = c.read_rest.ensures.memory.numbers.most; flags = c.read_rest.ensures.memory.numbers.flags };
       references = record {
         noted = c.read_rest.ensures.memory.references.noted;

@@ -11,13 +11,14 @@ loop-i-preserved c =
     let page = c.args.page in
     let i = c.loop-i.i in
     let listed : List Spot = c.as_slice-listed.result.now in
-    let masks : List ℕ = c.masks-masks.result.now in
+    let masks : List ℕ = c.as_slice-masks.result.now in
     let d : Spot = record { place = 0; sector = 0 } in
     let also : i < length masks =
     omega (
       arith,
       c.loop-i-test.true,
-      c.masks-masks.ensures.each,
+      c.masks-all_masks.ensures.each,
+      ap (λ (l : List ℕ). length l) c.as_slice-masks.ensures.value,
       ap (λ (l : List (ℕ × ℕ)). length l) c.list-all.ensures.spots,
       ap (λ (l : List Spot). length l) c.as_slice-listed.ensures.value,
       length-map c.list-all.result.items pair_of,
