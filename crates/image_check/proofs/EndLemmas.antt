@@ -69,7 +69,7 @@ shape_first x places fault is =
     ap (λ (o : Option ImageFault). option_or o (option_map (λ f. Chip f) (pages_fault x (layout_in (chart_of x) places)))) is
 
 -- and then it stands for no records
-shape_unwell : (x : Contents) (places : ℕ) (fault : ImageFault) → shape_fault (chart_of x) places ≡ Some fault
+pub shape_unwell : (x : Contents) (places : ℕ) (fault : ImageFault) → shape_fault (chart_of x) places ≡ Some fault
     → IsUnwell x places fault
 shape_unwell x places fault is = record {
   first = shape_first x places fault is;
@@ -77,6 +77,20 @@ shape_unwell x places fault is = record {
       let none = laid_has_no_shape_fault (chart_of x) places stands.layout stands.laid in
       some_none (sym is ∙ none);
 }
+
+-- a fault that is told of what the chip holds is one of the image
+pub image_of : (e : ImageFault) → is_told false e ≡ true → is_image e ≡ true
+image_of Geometry is = is
+image_of NotFormatted is = is
+image_of (Missing u) is = is
+image_of (Chip ReadFault) is = is
+image_of (Chip Stopped) is = is
+image_of (Chip (Damaged p s stored computed)) is = is
+image_of (Chip (Malformed p s)) is = is
+image_of (Chip (WornOut n)) is = is
+image_of Spent is = refl
+image_of (NoSpare n) is = is
+image_of TooManyNumbers is = absurd (false≢true is)
 
 pub looked_tells : {old new : Told} {e : ImageFault} (x : Contents) (places : ℕ) (r : Result ℕ ImageFault)
     → IsErrAnd r (λ y. y ≡ e) → HasCauseFor false e old new
@@ -86,21 +100,8 @@ looked_tells {e = e} x places (Err y) exit cause told = λ other. elim (cases_Bo
   | inl is ↦ shape_unwell x places y (told (image_of e is) ∙ ap (λ (f : ImageFault). Some f) (sym exit))
   | inr none ↦ absurd (other (exit ∙ (cause none).fault))
 ]
-  where
-    image_of : (e : ImageFault) → is_told false e ≡ true → is_image e ≡ true
-    image_of Geometry is = is
-    image_of NotFormatted is = is
-    image_of (Missing u) is = is
-    image_of (Chip ReadFault) is = is
-    image_of (Chip Stopped) is = is
-    image_of (Chip (Damaged p s stored computed)) is = is
-    image_of (Chip (Malformed p s)) is = is
-    image_of (Chip (WornOut n)) is = is
-    image_of Spent is = refl
-    image_of (NoSpare n) is = is
-    image_of TooManyNumbers is = absurd (false≢true is)
 
-looked_so : {old new : Told} (e : ImageFault) → HasCauseFor false e old new → IsCheckCause e old new
+pub looked_so : {old new : Told} (e : ImageFault) → HasCauseFor false e old new → IsCheckCause e old new
 looked_so Geometry cause = tt
 looked_so NotFormatted cause = tt
 looked_so (Missing u) cause = tt
@@ -121,16 +122,22 @@ looked_cause {old} {new} {e} (Err y) exit cause =
 
 -- ---- faults of pages
 
+pub page_unwell : (x : Contents) (places : ℕ) (e : ChipFault) → IsByteChart places (chart_of x)
+    → shape_fault (chart_of x) places ≡ None → pages_fault x (layout_in (chart_of x) places) ≡ Some e
+    → IsUnwell x places (Chip e)
+page_unwell x places e bytes shape pages =
+    let all : check_fault x places ≡ Some (Chip e) = rw (shape, pages) refl in record {
+      first = all;
+      stray = λ m stands. some_none (sym all ∙ standing_chips_have_no_fault x places m bytes stands);
+    }
+
 pub counted_tells : (e : ChipFault) (x : Contents) (places : ℕ) (r : Result ℕ ImageFault) → IsErrAnd r (λ y. y ≡ Chip e)
     → IsByteChart places (chart_of x) → shape_fault (chart_of x) places ≡ None
     → (e ≢ ReadFault → pages_fault x (layout_in (chart_of x) places) ≡ Some e) → ChecksImage x places r
 counted_tells e x places (Ok v) exit bytes shape told = absurd exit
 counted_tells e x places (Err y) exit bytes shape told = λ other.
-    let pages = told (λ is. other (exit ∙ ap (λ (f : ChipFault). Chip f) is)) in
-    let all : check_fault x places ≡ Some (Chip e) = rw (shape, pages) refl in record {
-      first = all ∙ ap (λ (f : ImageFault). Some f) (sym exit);
-      stray = λ m stands. some_none (sym all ∙ standing_chips_have_no_fault x places m bytes stands);
-    }
+    subst (IsUnwell x places) (sym exit)
+    (page_unwell x places e bytes shape (told (λ is. other (exit ∙ ap (λ (f : ChipFault). Chip f) is))))
 
 pub counted_cause : (old mid new : Told) (e : ChipFault) (r : Result ℕ ImageFault) → IsErrAnd r (λ y. y ≡ Chip e)
     → Counts old mid → IsReadingCause e mid new → IfErr r (λ y. IsCheckCause y old new)
