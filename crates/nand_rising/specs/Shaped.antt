@@ -1,4 +1,5 @@
 -- Slots over pages, as contracts see them.
+use Rattle.std.specs.Prelude.{Bool}
 use Rattle.nand_2k.specs.Part.{PartTold}
 use Rattle.nand_rising.specs.declared.shape.Shape.{Shape}
 use Rattle.nand_rising.specs.declared.pages.Pages.{Ghosts}
@@ -16,3 +17,7 @@ module _ {D : Type 0} {g : Ghosts D} where
   -- all that it tells
   abbrev pub shaped_told_of : Shaped D g → PartTold
   shaped_told_of part = telling_pages (shape_of part) part.said (pages_of part)
+
+  -- the ECC had to correct what was read last
+  abbrev pub shaped_corrected_of : Shaped D g → Bool
+  shaped_corrected_of part = g.corrected part.pages

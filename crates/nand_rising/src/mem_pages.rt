@@ -5,7 +5,7 @@ ghost use Rattle.chip_mem.specs.Views.{plain_told_of};
 use crate::pages::Pages;
 use crate::shape::Shape;
 use chip_mem::PlainChip;
-use chip_trait::Chip;
+use chip_trait::{Chip, Failed};
 use ipl_base::OutOfMemory;
 use nand_2k::Status;
 use std::alloc::Global;
@@ -52,18 +52,38 @@ fn index_of(shape: Shape, page: u32, chunk: u32) -> u32
 }
 
 impl Pages for MemPages {
-    ghost use Rattle.std.specs.Prelude.{◌<◌, ◌+◌, IfSome};
+    ghost use Rattle.std.specs.Prelude.{◌<◌, ◌+◌, false, Ok, IfSome};
     ghost use Rattle.chip_trait.specs.declared.event.Event.TheVariants.{Program, Erase};
     ghost use Rattle.nand_2k.specs.declared.part.Status.TheVariants.{Passed};
     ghost use Rattle.nand_2k.specs.Part.{AsksPart, AsksErase};
-    ghost use Rattle.nand_rising.specs.Memory.{mem_shape_of, mem_pages_told_of};
+    ghost use Rattle.nand_rising.specs.Memory.{mem_shape_of, mem_pages_told_of, mem_marks_of, mem_corrected_of};
 
     ghost shape = { mem_shape_of };
 
     ghost told = { mem_pages_told_of };
 
+    ghost bad = { mem_marks_of };
+
+    ghost corrected = { mem_corrected_of };
+
     fn shape(&self) -> Shape {
         self.shape
+    }
+
+    /// No block is bad.
+    fn reads_mark(&mut self, block: u32) -> Result<bool, Failed>
+        requires { block < (mem_shape_of self.old).blocks }
+        ensures same { self.new ≡ self.old }
+        ensures never { result ≡ Ok false }
+    {
+        Ok(false)
+    }
+
+    /// Nothing has to be corrected.
+    fn corrected(&self) -> bool
+        ensures { result ≡ false }
+    {
+        false
     }
 
     /// It always passes.
@@ -72,6 +92,7 @@ impl Pages for MemPages {
         requires page { page < (mem_shape_of self.old).pages }
         requires chunk { chunk < (mem_shape_of self.old).chunks }
         ensures shape { mem_shape_of self.new ≡ mem_shape_of self.old }
+        ensures marks { mem_marks_of self.new ≡ mem_marks_of self.old }
         ensures only { mem_pages_told_of self.new ≡ mem_pages_told_of self.old }
         ensures bytes { IfSome (mem_pages_told_of self.old).contents
             (λ x. into.new ≡ x block (page * (mem_shape_of self.old).chunks + chunk)) }
@@ -88,6 +109,7 @@ impl Pages for MemPages {
         requires page { page < (mem_shape_of self.old).pages }
         requires chunk { chunk < (mem_shape_of self.old).chunks }
         ensures shape { mem_shape_of self.new ≡ mem_shape_of self.old }
+        ensures marks { mem_marks_of self.new ≡ mem_marks_of self.old }
         ensures asks { AsksPart result (Program block (page * (mem_shape_of self.old).chunks + chunk) from.now)
             (mem_pages_told_of self.old) (mem_pages_told_of self.new) }
         ensures passed { result ≡ Passed }
@@ -101,6 +123,7 @@ impl Pages for MemPages {
     fn erase_block(&mut self, block: u32) -> Status
         requires { block < (mem_shape_of self.old).blocks }
         ensures shape { mem_shape_of self.new ≡ mem_shape_of self.old }
+        ensures marks { mem_marks_of self.new ≡ mem_marks_of self.old }
         ensures asks { AsksErase result (Erase block)
             (mem_pages_told_of self.old) (mem_pages_told_of self.new) }
         ensures passed { result ≡ Passed }
