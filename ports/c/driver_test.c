@@ -120,7 +120,9 @@ static int read_one(uint32_t place, uint32_t sector, const uint8_t **found) {
     uint8_t *into = lend();
     test.result->reads++;
     test.result->answer = test.driver->read(test.driver->context, place, sector, into);
-    if (test.result->answer != IPL_NAND_DONE) return breaks(IPL_LAW_READ_PASSES, place, sector);
+    /* What the ECC can't mend may be handed over, as of a torn sector; its bytes are looked at all the same. */
+    if (test.result->answer != IPL_NAND_DONE && test.result->answer != IPL_NAND_DOUBTFUL)
+        return breaks(IPL_LAW_READ_PASSES, place, sector);
     if (!is_untouched_beside(into)) return breaks(IPL_LAW_LENT, place, sector);
     *found = into;
     return 1;

@@ -93,9 +93,21 @@ static int ipl_count(struct ipl *s, uint64_t *calls, int done) {
     return done;
 }
 
+static int ipl_read_once(struct ipl *s, uint32_t place, uint32_t sector, uint8_t *into) {
+    int done = s->driver.read(s->driver.context, place, sector, into);
+    s->facts.reads++;
+    if (done == IPL_NAND_DOUBTFUL) s->facts.doubtful++;
+    else if (done != IPL_NAND_DONE) s->facts.failures++;
+    return done;
+}
+
+/* What the ECC couldn't mend is read once more: bits that flip in one read may stand in the next. Bytes that it
+ * can't mend then either are handed on, and the store looks at their sum. */
 static int ipl_read(void *context, uint32_t place, uint32_t sector, uint8_t *into) {
     struct ipl *s = (struct ipl *)context;
-    return ipl_count(s, &s->facts.reads, s->driver.read(s->driver.context, place, sector, into));
+    int done = ipl_read_once(s, place, sector, into);
+    if (done == IPL_NAND_DOUBTFUL) done = ipl_read_once(s, place, sector, into);
+    return done == IPL_NAND_DOUBTFUL ? IPL_NAND_DONE : done;
 }
 
 static int ipl_program(void *context, uint32_t place, uint32_t sector, const uint8_t *from) {

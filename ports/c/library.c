@@ -27,16 +27,21 @@ enum { IPL_HEAD = (sizeof(struct ipl_engine) + IPL_BLOCK - 1) / IPL_BLOCK * IPL_
 
 /* ---- how much memory: as COSTS.md has it, and less than IPL_BLOCK more for each block */
 
-enum { IPL_OPEN_BLOCKS = 22, IPL_CHECK_BLOCKS = 17 };
+enum { IPL_OPEN_BLOCKS = 23, IPL_CHECK_BLOCKS = 18 };
+
+/* By the places: the log sectors in overflow places are 16 a unit, and 510 at most. */
+static size_t ipl_bytes_of_places(uint32_t places) {
+    return (size_t)391 * places + (size_t)6 * (places < 36 ? 16 * places - 64 : 510);
+}
 
 size_t ipl_engine_memory(const struct ipl_config *config) {
-    return (size_t)IPL_HEAD + 28160 + (size_t)504 * config->places + (size_t)16728 * config->frames
+    return (size_t)IPL_HEAD + 28652 + ipl_bytes_of_places(config->places) + (size_t)16728 * config->frames
            + (size_t)2600 * config->sessions + (size_t)8 * config->numbers + 2 * (((size_t)config->numbers + 7) / 8)
            + IPL_OPEN_BLOCKS * IPL_BLOCK;
 }
 
 size_t ipl_engine_check_memory(const struct ipl_config *config) {
-    return (size_t)IPL_HEAD + 140018 + (size_t)504 * config->places + IPL_CHECK_BLOCKS * IPL_BLOCK;
+    return (size_t)IPL_HEAD + 140470 + ipl_bytes_of_places(config->places) + IPL_CHECK_BLOCKS * IPL_BLOCK;
 }
 
 size_t ipl_engine_format_memory(void) { return IPL_HEAD; }

@@ -68,14 +68,17 @@ static ipl_u32 ipl_to_ipl_nand_read(ipl_u8 *const m, ipl_u64 part, ipl_u32 place
 /* An engine in the memory: its head, stack, request and slack, and no heap yet. */
 static size_t ipl_least_memory(void) { return (size_t)IPL_HEAD + IPL_HEAP + IPL_SLACK; }
 
-/* What an opening and a check take of the heap: tests/memory.c tries many configs. */
+/* What an opening and a check take of the heap by the places: the log sectors in overflow places are 16 a unit, and 510 at
+ * most. tests/memory.c tries many configs. */
+static size_t ipl_bytes_of_places(size_t places) { return 391 * places + 6 * (places < 36 ? 16 * places - 64 : 510); }
+
 IPL_ENGINE size_t ipl_engine_memory(const struct ipl_config *config) {
-    return ipl_least_memory() + 28182 + 504 * (size_t)config->places + 16728 * (size_t)config->frames
+    return ipl_least_memory() + 28673 + ipl_bytes_of_places(config->places) + 16728 * (size_t)config->frames
            + 2600 * (size_t)config->sessions + 8 * (size_t)config->numbers + 2 * (((size_t)config->numbers + 7) / 8);
 }
 
 IPL_ENGINE size_t ipl_engine_check_memory(const struct ipl_config *config) {
-    return ipl_least_memory() + 140029 + 504 * (size_t)config->places;
+    return ipl_least_memory() + 140482 + ipl_bytes_of_places(config->places);
 }
 
 IPL_ENGINE size_t ipl_engine_format_memory(void) { return ipl_least_memory(); }

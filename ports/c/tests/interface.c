@@ -576,7 +576,8 @@ static void try_state(void) {
     struct ipl_facts state;
     uint8_t value[8];
     uint32_t len;
-    static const struct part_ills none, worn = {.wears = 65536}, unwritten = {.fails[PROGRAM] = 65536};
+    static const struct part_ills none, worn = {.wears = 65536}, unwritten = {.fails[PROGRAM] = 65536},
+                                  flipping = {.flips = 65536};
     format_it();
     struct part_counts before = part_counts(PART), after;
     must(open_it() == IPL_OK && ipl_begin(&store, 3) == IPL_OK && ipl_begin(&store, 31) == IPL_OK, "two sessions");
@@ -595,6 +596,11 @@ static void try_state(void) {
     must(state.programs == after.calls[PROGRAM] - before.calls[PROGRAM], "its programs");
     must(state.erases == after.calls[ERASE] - before.calls[ERASE] && state.erases != 0, "its erases");
     must(state.barriers == after.calls[BARRIER] - before.calls[BARRIER], "its barriers");
+    must(state.doubtful == 0, "no read is doubtful");
+    part_set_ills(PART, flipping);
+    must(ipl_merge(&store, 0) == IPL_OK && ipl_state(&store, &state) == IPL_OK, "a merge over reads that are doubtful");
+    must(state.doubtful != 0 && state.doubtful == part_counts(PART).flips && state.failures == 0, "which are made again");
+    part_set_ills(PART, none);
     must(ipl_shutdown(&store, 1) == IPL_OK && ipl_begin(&store, 0) == IPL_DOWN, "a shutdown that drops sessions");
     must(ipl_state(&store, &state) == IPL_OK && state.is_down == 1, "a store that is down");
     must(ipl_reopen(&store) == IPL_OK && ipl_state(&store, &state) == IPL_OK && state.is_down == 0, "a reopen");

@@ -11,6 +11,7 @@ static struct part {
     uint8_t *used;    /* which sectors were programmed since the erase of their place */
     uint8_t *worn;    /* which places answer that they are worn */
     uint64_t until_cut;
+    size_t flipped;   /* the sector whose bits had flipped when it was read last, counted from 1 */
     int off;
     struct part_ills ills;
     struct part_counts counts;
@@ -142,7 +143,15 @@ static int part_read(void *context, uint32_t place, uint32_t sector, uint8_t *in
         if (happens(it->ills.odd)) fill_with_any(into, SECTOR);
         return failure(it, READ);
     }
-    memcpy(into, it->now + ((size_t)place * SECTORS + sector) * SECTOR, SECTOR);
+    size_t here = (size_t)place * SECTORS + sector + 1;
+    memcpy(into, it->now + (here - 1) * SECTOR, SECTOR);
+    if (it->flipped != here && happens(it->ills.flips)) {
+        for (int i = 0; i < 3; i++) into[any_below(SECTOR)] ^= (uint8_t)(1u << any_below(8));
+        it->flipped = here;
+        it->counts.flips++;
+        return IPL_NAND_DOUBTFUL;
+    }
+    it->flipped = 0;
     if (happens(it->ills.lies)) {
         it->counts.lies++;
         switch (any_below(3)) {

@@ -12,11 +12,12 @@ struct part_ills {
     uint32_t fails[KINDS];
     uint32_t wears; /* an erase answers that the place is worn, and does from then on */
     uint32_t lies;  /* a read is done, and has other bytes */
+    uint32_t flips; /* a read is doubtful, and has other bits; the next one of that sector is right */
     uint32_t odd;   /* a failure is any number, and may write where a failed read may */
 };
 
 struct part_counts {
-    uint64_t calls[KINDS], failed[KINDS], cuts[KINDS], lies, worn;
+    uint64_t calls[KINDS], failed[KINDS], cuts[KINDS], lies, flips, worn;
 };
 
 /* A part with rubbish in all its places. */

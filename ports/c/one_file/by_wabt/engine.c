@@ -8,7 +8,7 @@
 #include <string.h>
 #include <sys/mman.h>
 
-enum { STACK = 40960, REQUEST = STACK, OUT = REQUEST + 656, HEAP = OUT + 16, SLACK = 4096, MEMORIES = 64 };
+enum { STACK = 40960, REQUEST = STACK, OUT = REQUEST + 656, HEAP = OUT + 16, MEMORIES = 64 };
 
 struct Z_env_instance_t {
     struct ipl_engine *engine;
@@ -109,12 +109,14 @@ u32 Z_envZ_ipl_nand_read(struct Z_env_instance_t *env, u64 part, u32 place, u32 
 
 /* ---- engine.h */
 
-static size_t least(void) { return sizeof(struct ipl_engine) + HEAP + SLACK; }
+/* Nothing is kept free behind the heap: the module's own memory goes on there. */
+static size_t least(void) { return sizeof(struct ipl_engine) + HEAP; }
+static size_t bytes_of_places(size_t places) { return 391 * places + 6 * (places < 36 ? 16 * places - 64 : 510); }
 size_t ipl_engine_memory(const struct ipl_config *config) {
-    return least() + 28182 + 504 * (size_t)config->places + 16728 * (size_t)config->frames + 2600 * (size_t)config->sessions
+    return least() + 28673 + bytes_of_places(config->places) + 16728 * (size_t)config->frames + 2600 * (size_t)config->sessions
            + 8 * (size_t)config->numbers + 2 * (((size_t)config->numbers + 7) / 8);
 }
-size_t ipl_engine_check_memory(const struct ipl_config *config) { return least() + 140029 + 504 * (size_t)config->places; }
+size_t ipl_engine_check_memory(const struct ipl_config *config) { return least() + 140482 + bytes_of_places(config->places); }
 size_t ipl_engine_format_memory(void) { return least(); }
 
 struct ipl_engine *ipl_engine_raise(void *memory, size_t size, const struct ipl_driver *driver) {
@@ -123,7 +125,7 @@ struct ipl_engine *ipl_engine_raise(void *memory, size_t size, const struct ipl_
     e->env.engine = e;
     e->driver = driver;
     e->heap = HEAP;
-    e->end = size - sizeof *e - SLACK;
+    e->end = size - sizeof *e;
     Z_ipl_init_module();
     Z_ipl_instantiate(&e->instance, &e->env);
     return e;

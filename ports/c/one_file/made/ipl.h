@@ -19,7 +19,7 @@ extern "C" {
  * Of this header, as 10,000 times the first number, 100 times the second and the third. A config has it,
  * and a library of another version refuses that.
  */
-#define IPL_VERSION 10200u
+#define IPL_VERSION 10300u
 /* The version of the library, which is IPL_VERSION of the header that it was made with. */
 uint32_t ipl_version(void);
 /* The version of the format that it writes to a part. It reads that one and all before it. */
@@ -56,13 +56,14 @@ enum ipl_limit {
  * call. Write nothing but into[0..511] and memory of your own. Return. Call nothing of this header for the
  * store that is calling: it answers IPL_BUSY.
  */
-enum ipl_done { IPL_NAND_DONE = 0, IPL_NAND_WORN = 1, IPL_NAND_FAILED = 2 };
+enum ipl_done { IPL_NAND_DONE = 0, IPL_NAND_WORN = 1, IPL_NAND_FAILED = 2, IPL_NAND_DOUBTFUL = 3 };
 
 struct ipl_driver {
     void *context;
     /* Reads a sector: done, or failed, after which `into` may hold anything. A sector that was never
      * programmed since its place was erased reads as 512 bytes FF. One that the ECC can't mend is
-     * handed over as it was read, and done: the store knows it by its sum. */
+     * handed over as it was read, and doubtful: it is read once more at once, and is then taken as it
+     * was handed over, since the store knows it by its sum. A driver that can't tell answers done. */
     int (*read)(void *context, uint32_t place, uint32_t sector, uint8_t *into);
     /* Programs a sector, at most once from one erase of its place to the next: done, or failed. It is
      * sure to last from the next barrier on; after a power cut before that it holds its old bytes, its
@@ -101,8 +102,8 @@ size_t ipl_format_memory(const struct ipl_config *config);
 #define IPL_MEMORY(places, frames) IPL_MEMORY_OF(places, frames, IPL_SESSIONS)
 #define IPL_MEMORY_OF(places, frames, sessions) IPL_MEMORY_WITH(places, frames, sessions, IPL_NUMBERS_MOST)
 #define IPL_MEMORY_WITH(places, frames, sessions, numbers) \
-    ((size_t)75000 + (size_t)504 * (places) + (size_t)16728 * (frames) + (size_t)2600 * (sessions) \
-     + (size_t)8 * (numbers) + 2 * (((size_t)(numbers) + 7) / 8))
+    ((size_t)75000 + (size_t)391 * (places) + (size_t)6 * ((places) < 36 ? 16 * (size_t)(places) - 64 : 510) \
+     + (size_t)16728 * (frames) + (size_t)2600 * (sessions) + (size_t)8 * (numbers) + 2 * (((size_t)(numbers) + 7) / 8))
 
 /* ---- answers ------------------------------------------------------------------------------------
  *
@@ -209,6 +210,7 @@ struct ipl_facts {
     uint32_t worn;     /* so many erases found a place worn since the opening, also through reopens */
     uint64_t reads, programs, erases, barriers; /* so often the part was asked since then, the opening among it */
     uint64_t failures; /* so many of these failed */
+    uint64_t doubtful; /* so many reads handed over what the part's ECC couldn't mend */
     /* What is left, as the store's tables have it; zeros where it couldn't be asked, since a longjmp left it
      * or a reopen failed. */
     uint32_t retired;       /* so many of the spare places took a worn one's; one more puts the store down */
