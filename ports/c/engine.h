@@ -49,7 +49,8 @@ enum ipl_op {
                             * clean log sectors, clean commit sectors, the lower and the upper half of the numbers */
 };
 
-enum ipl_engine_kind { IPL_ENGINE_RECORDS, IPL_ENGINE_KEYS };
+/* A reader does IPL_OP_COMMITTED and IPL_OP_UNITS; each other call it answers by IPL_READ_ONLY. */
+enum ipl_engine_kind { IPL_ENGINE_RECORDS, IPL_ENGINE_KEYS, IPL_ENGINE_READER };
 
 /* Each implementation defines its own; it stands at the start of the memory. */
 struct ipl_engine;
@@ -57,10 +58,12 @@ struct ipl_engine;
 /* The memory of an engine begins at a multiple of so many bytes. */
 enum { IPL_ENGINE_ALIGNMENT = 16 };
 
-/* How many bytes an engine wants, with all that it takes: for an opening and what follows it, for a check,
- * for a format. The config's numbers are in their ranges, those that are looked at: of a check the places alone.
- * A format wants the least; a check has room for 15,300 numbers, whatever the config says. */
+/* How many bytes an engine wants, with all that it takes: for an opening and what follows it, for one of a
+ * reader, for a check, for a format. The config's numbers are in their ranges, those that are looked at: of a
+ * reader the places and the committed numbers, of a check the places alone. A format wants the least; a check
+ * has room for 15,300 numbers, whatever the config says. */
 IPL_ENGINE size_t ipl_engine_memory(const struct ipl_config *config);
+IPL_ENGINE size_t ipl_engine_read_memory(const struct ipl_config *config);
 IPL_ENGINE size_t ipl_engine_check_memory(const struct ipl_config *config);
 IPL_ENGINE size_t ipl_engine_format_memory(void);
 

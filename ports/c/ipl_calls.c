@@ -56,6 +56,7 @@ const char *ipl_text(enum ipl_answer answer) {
     case IPL_BAD_SPARES: return "more than 64 spare places, or no unit is left";
     case IPL_BAD_SESSIONS: return "not 1 to 32 sessions";
     case IPL_BAD_NUMBERS: return "not room for 120 to 15,300 committed numbers";
+    case IPL_READ_ONLY: return "the part was opened to be read alone";
     case IPL_READ_FAULT: return "a read failed";
     case IPL_DAMAGED: return "a sector of a page is damaged";
     case IPL_MALFORMED: return "a page is malformed";
@@ -131,12 +132,17 @@ static int ipl_barrier(void *context) {
 
 /* ---- how much memory */
 
-static enum ipl_answer ipl_look_at(const struct ipl_config *config, int opens, int has_spares) {
+/* What is begun. From IPL_WORK_READ on it ends with something open, and from IPL_WORK_OPEN on with sessions. */
+enum ipl_work { IPL_WORK_FORMAT, IPL_WORK_CHECK, IPL_WORK_READ, IPL_WORK_OPEN, IPL_WORK_OPEN_OR_FORMAT };
+
+static enum ipl_answer ipl_look_at(const struct ipl_config *config, enum ipl_work work) {
+    int reads = work >= IPL_WORK_READ, opens = work >= IPL_WORK_OPEN;
+    int has_spares = work == IPL_WORK_FORMAT || work == IPL_WORK_OPEN_OR_FORMAT;
     if (config->version != IPL_VERSION) return IPL_OTHER_VERSION;
     if (config->places < IPL_PLACES_LEAST || config->places > IPL_PLACES_MOST) return IPL_BAD_PLACES;
     if (opens && (config->frames < IPL_FRAMES_LEAST || config->frames > IPL_FRAMES_MOST)) return IPL_BAD_FRAMES;
     if (opens && (config->sessions < 1 || config->sessions > IPL_SESSIONS)) return IPL_BAD_SESSIONS;
-    if (opens && (config->numbers < IPL_NUMBERS_LEAST || config->numbers > IPL_NUMBERS_MOST)) return IPL_BAD_NUMBERS;
+    if (reads && (config->numbers < IPL_NUMBERS_LEAST || config->numbers > IPL_NUMBERS_MOST)) return IPL_BAD_NUMBERS;
     if (has_spares && (config->spares > IPL_SPARES_MOST || config->spares > config->places - IPL_PLACES_LEAST))
         return IPL_BAD_SPARES;
     return IPL_OK;
@@ -145,20 +151,18 @@ static enum ipl_answer ipl_look_at(const struct ipl_config *config, int opens, i
 /* The memory may begin at any address, and the engine's may not. */
 enum { IPL_GAP = IPL_ENGINE_ALIGNMENT - 1 };
 
-size_t ipl_memory(const struct ipl_config *config) {
-    if (config == NULL || ipl_look_at(config, 1, 0) != IPL_OK) return 0;
+static size_t ipl_wanted(const struct ipl_config *config, enum ipl_work work) {
+    if (config == NULL || ipl_look_at(config, work) != IPL_OK) return 0;
+    if (work == IPL_WORK_FORMAT) return IPL_GAP + ipl_engine_format_memory();
+    if (work == IPL_WORK_CHECK) return IPL_GAP + ipl_engine_check_memory(config);
+    if (work == IPL_WORK_READ) return IPL_GAP + ipl_engine_read_memory(config);
     return IPL_GAP + ipl_engine_memory(config);
 }
 
-size_t ipl_check_memory(const struct ipl_config *config) {
-    if (config == NULL || ipl_look_at(config, 0, 0) != IPL_OK) return 0;
-    return IPL_GAP + ipl_engine_check_memory(config);
-}
-
-size_t ipl_format_memory(const struct ipl_config *config) {
-    if (config == NULL || ipl_look_at(config, 0, 1) != IPL_OK) return 0;
-    return IPL_GAP + ipl_engine_format_memory();
-}
+size_t ipl_memory(const struct ipl_config *config) { return ipl_wanted(config, IPL_WORK_OPEN); }
+size_t ipl_read_memory(const struct ipl_config *config) { return ipl_wanted(config, IPL_WORK_READ); }
+size_t ipl_check_memory(const struct ipl_config *config) { return ipl_wanted(config, IPL_WORK_CHECK); }
+size_t ipl_format_memory(const struct ipl_config *config) { return ipl_wanted(config, IPL_WORK_FORMAT); }
 
 /* ---- the list of open stores */
 
@@ -209,14 +213,6 @@ static void ipl_unlist(struct ipl *s) {
 
 /* ---- openings, formats and checks */
 
-enum ipl_work { IPL_WORK_FORMAT, IPL_WORK_CHECK, IPL_WORK_OPEN, IPL_WORK_OPEN_OR_FORMAT };
-
-static size_t ipl_wanted(const struct ipl_config *config, enum ipl_work work) {
-    if (work == IPL_WORK_FORMAT) return ipl_format_memory(config);
-    if (work == IPL_WORK_CHECK) return ipl_check_memory(config);
-    return ipl_memory(config);
-}
-
 static enum ipl_answer ipl_refuse(struct ipl *s, enum ipl_answer answer, uint32_t detail) {
     s->detail[0] = detail;
     return answer;
@@ -234,7 +230,7 @@ static enum ipl_answer ipl_start(struct ipl *s, const struct ipl_driver *driver,
     if (driver == NULL || config == NULL || memory == NULL) return IPL_NULL_POINTER;
     if (driver->read == NULL || driver->program == NULL || driver->erase == NULL || driver->barrier == NULL)
         return IPL_NULL_POINTER;
-    answer = ipl_look_at(config, work >= IPL_WORK_OPEN, work == IPL_WORK_FORMAT || work == IPL_WORK_OPEN_OR_FORMAT);
+    answer = ipl_look_at(config, work);
     if (answer != IPL_OK) return ipl_refuse(s, answer, answer == IPL_OTHER_VERSION ? IPL_VERSION : 0);
     wanted = ipl_wanted(config, work);
     if (size < wanted) return ipl_refuse(s, IPL_SMALL_MEMORY, (uint32_t)wanted);
@@ -247,8 +243,10 @@ static enum ipl_answer ipl_start(struct ipl *s, const struct ipl_driver *driver,
     s->counting.erase = ipl_erase;
     s->counting.barrier = ipl_barrier;
     s->facts.places = config->places;
-    s->facts.frames = config->frames;
-    s->facts.sessions = config->sessions;
+    if (work >= IPL_WORK_OPEN) {
+        s->facts.frames = config->frames;
+        s->facts.sessions = config->sessions;
+    }
     s->facts.room = config->numbers;
     answer = ipl_list(s);
     if (answer != IPL_OK) return answer;
@@ -374,19 +372,31 @@ enum ipl_answer ipl_open_or_format(struct ipl *s, const struct ipl_driver *drive
     return ipl_open_kind(s, IPL_ENGINE_RECORDS, driver, config, memory, size, IPL_WORK_OPEN_OR_FORMAT);
 }
 
+enum ipl_answer ipl_open_to_read(struct ipl *s, const struct ipl_driver *driver, const struct ipl_config *config,
+                                 void *memory, size_t size) {
+    return ipl_open_kind(s, IPL_ENGINE_READER, driver, config, memory, size, IPL_WORK_READ);
+}
+
 /* ---- one call of an open store */
 
 static enum ipl_answer ipl_admit(const struct ipl *s, enum ipl_engine_kind kind) {
     if (s == NULL) return IPL_NULL_POINTER;
     if (s->self != s || (s->tag != IPL_TAG_OPEN && s->tag != IPL_TAG_OPENING)) return IPL_NO_STORE;
     if (s->is_busy) return IPL_BUSY;
-    return s->kind == (uint32_t)kind ? IPL_OK : IPL_NO_SUCH_CALL;
+    if (s->kind == (uint32_t)kind) return IPL_OK;
+    return s->kind == IPL_ENGINE_READER ? IPL_READ_ONLY : IPL_NO_SUCH_CALL;
 }
 
 /* Lets a call of a store of either kind begin. */
-static enum ipl_answer ipl_admit_any(const struct ipl *s) {
+static enum ipl_answer ipl_admit_either(const struct ipl *s) {
     enum ipl_answer answer = ipl_admit(s, IPL_ENGINE_RECORDS);
     return answer == IPL_NO_SUCH_CALL ? IPL_OK : answer;
+}
+
+/* And one that a part has too that is only read. */
+static enum ipl_answer ipl_admit_any(const struct ipl *s) {
+    enum ipl_answer answer = ipl_admit_either(s);
+    return answer == IPL_READ_ONLY ? IPL_OK : answer;
 }
 
 static void ipl_begin_call(struct ipl *s) {
@@ -444,6 +454,7 @@ static enum ipl_answer ipl_find_name(struct ipl *s, enum ipl_op op, uint32_t ses
     enum ipl_answer answer;
     if (!ipl_has_room(value, room, len)) return IPL_NULL_POINTER;
     answer = ipl_admit(s, IPL_ENGINE_RECORDS);
+    if (answer == IPL_READ_ONLY && op == IPL_OP_COMMITTED) answer = IPL_OK;
     if (answer != IPL_OK) return answer;
     ipl_begin_call(s);
     return ipl_end_call(s, ipl_find(s, op, session, name, value, room, len));
@@ -493,7 +504,7 @@ enum ipl_answer ipl_close(struct ipl *s) {
 }
 
 enum ipl_answer ipl_shutdown(struct ipl *s, int drops) {
-    enum ipl_answer answer = ipl_admit_any(s);
+    enum ipl_answer answer = ipl_admit_either(s);
     if (answer != IPL_OK) return answer;
     ipl_begin_call(s);
     if (drops) answer = ipl_abort_each(s);
@@ -557,7 +568,7 @@ enum ipl_answer ipl_state(const struct ipl *s, struct ipl_facts *facts) {
     answer = ipl_admit_any(s);
     if (answer != IPL_OK) return answer;
     *facts = s->facts;
-    return s->is_gone ? IPL_OK : ipl_tell_left(s, facts);
+    return s->is_gone || s->kind == IPL_ENGINE_READER ? IPL_OK : ipl_tell_left(s, facts);
 }
 
 const uint32_t *ipl_detail(const struct ipl *s) {

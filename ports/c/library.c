@@ -9,7 +9,10 @@ uint32_t ipl_port_format(uint64_t part, uint32_t places, uint32_t spares, struct
 uint32_t ipl_port_check(uint64_t part, uint32_t places, struct ipl_request *r);
 uint32_t ipl_port_open_records(uint64_t part, uint32_t places, uint32_t frames, struct ipl_request *r, void **out);
 uint32_t ipl_port_open_keys(uint64_t part, uint32_t places, uint32_t frames, struct ipl_request *r, void **out);
+uint32_t ipl_port_make_reader(uint64_t part, uint32_t places, struct ipl_request *r, void **out);
+uint32_t ipl_port_look(struct ipl_handle handle, struct ipl_request *r, void **out);
 uint32_t ipl_port_call(struct ipl_handle handle, struct ipl_request *r, void **out);
+uint32_t ipl_port_read(struct ipl_handle handle, struct ipl_request *r, void **out);
 
 typedef char ipl_pointers_have_64_bits[sizeof(void *) == 8 ? 1 : -1];
 
@@ -19,6 +22,7 @@ struct ipl_engine {
     const struct ipl_driver *driver;
     struct ipl_handle handle;
     uint8_t *next, *end;
+    enum ipl_engine_kind kind; /* of what the handle is */
 };
 
 /* Each block is aligned so, whatever is asked. */
@@ -27,7 +31,7 @@ enum { IPL_HEAD = (sizeof(struct ipl_engine) + IPL_BLOCK - 1) / IPL_BLOCK * IPL_
 
 /* ---- how much memory: as COSTS.md has it, and less than IPL_BLOCK more for each block */
 
-enum { IPL_OPEN_BLOCKS = 23, IPL_CHECK_BLOCKS = 18 };
+enum { IPL_OPEN_BLOCKS = 23, IPL_READ_BLOCKS = 19, IPL_CHECK_BLOCKS = 18 };
 
 /* By the places: the log sectors in overflow places are 16 a unit, and 510 at most. */
 static size_t ipl_bytes_of_places(uint32_t places) {
@@ -38,6 +42,11 @@ size_t ipl_engine_memory(const struct ipl_config *config) {
     return (size_t)IPL_HEAD + 28652 + ipl_bytes_of_places(config->places) + (size_t)16728 * config->frames
            + (size_t)2600 * config->sessions + (size_t)8 * config->numbers + 2 * (((size_t)config->numbers + 7) / 8)
            + IPL_OPEN_BLOCKS * IPL_BLOCK;
+}
+
+size_t ipl_engine_read_memory(const struct ipl_config *config) {
+    return (size_t)IPL_HEAD + 31460 + ipl_bytes_of_places(config->places) + (size_t)8 * config->numbers
+           + 2 * (((size_t)config->numbers + 7) / 8) + IPL_READ_BLOCKS * IPL_BLOCK;
 }
 
 size_t ipl_engine_check_memory(const struct ipl_config *config) {
@@ -131,13 +140,23 @@ uint32_t ipl_engine_check(struct ipl_engine *e, uint32_t places) {
     return answer;
 }
 
+/* A reader is made first, and looks its part over then. */
+static uint32_t open_reader(struct ipl_engine *e, uint32_t places) {
+    uint32_t answer = ipl_port_make_reader(part_of(e), places, &e->request, &e->handle.at);
+    struct ipl_handle handle = e->handle;
+    return answer == IPL_OK ? ipl_port_look(handle, &e->request, &e->handle.at) : answer;
+}
+
 uint32_t ipl_engine_open(struct ipl_engine *e, enum ipl_engine_kind kind, const struct ipl_config *config) {
     struct ipl_engine *outer = taking;
     uint32_t answer;
     e->request.session = config->sessions;
     e->request.name = config->numbers;
+    e->kind = kind;
     taking = e;
-    if (kind == IPL_ENGINE_KEYS)
+    if (kind == IPL_ENGINE_READER)
+        answer = open_reader(e, config->places);
+    else if (kind == IPL_ENGINE_KEYS)
         answer = ipl_port_open_keys(part_of(e), config->places, config->frames, &e->request, &e->handle.at);
     else
         answer = ipl_port_open_records(part_of(e), config->places, config->frames, &e->request, &e->handle.at);
@@ -147,5 +166,6 @@ uint32_t ipl_engine_open(struct ipl_engine *e, enum ipl_engine_kind kind, const 
 
 uint32_t ipl_engine_call(struct ipl_engine *e) {
     struct ipl_handle handle = e->handle;
+    if (e->kind == IPL_ENGINE_READER) return ipl_port_read(handle, &e->request, &e->handle.at);
     return ipl_port_call(handle, &e->request, &e->handle.at);
 }

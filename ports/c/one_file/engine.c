@@ -77,6 +77,11 @@ IPL_ENGINE size_t ipl_engine_memory(const struct ipl_config *config) {
            + 2600 * (size_t)config->sessions + 8 * (size_t)config->numbers + 2 * (((size_t)config->numbers + 7) / 8);
 }
 
+IPL_ENGINE size_t ipl_engine_read_memory(const struct ipl_config *config) {
+    return ipl_least_memory() + 31475 + ipl_bytes_of_places(config->places) + 8 * (size_t)config->numbers
+           + 2 * (((size_t)config->numbers + 7) / 8);
+}
+
 IPL_ENGINE size_t ipl_engine_check_memory(const struct ipl_config *config) {
     return ipl_least_memory() + 140482 + ipl_bytes_of_places(config->places);
 }
@@ -116,7 +121,8 @@ static void ipl_turn_request(struct ipl_request *r) {
 #endif
 }
 
-enum ipl_entry { IPL_DO_FORMAT, IPL_DO_CHECK, IPL_DO_RECORDS, IPL_DO_KEYS, IPL_DO_CALL };
+/* From IPL_DO_RECORDS on they leave a handle. */
+enum ipl_entry { IPL_DO_FORMAT, IPL_DO_CHECK, IPL_DO_RECORDS, IPL_DO_KEYS, IPL_DO_MAKE, IPL_DO_LOOK, IPL_DO_CALL, IPL_DO_READ };
 
 static IPL_OUT_OF_LINE ipl_u32 ipl_do(ipl_u8 *const m, enum ipl_entry what, ipl_u32 a, ipl_u32 b) {
     switch (what) {
@@ -124,6 +130,9 @@ static IPL_OUT_OF_LINE ipl_u32 ipl_do(ipl_u8 *const m, enum ipl_entry what, ipl_
     case IPL_DO_CHECK: return ipl_w_ipl_port_check(m, 0, a, IPL_REQUEST);
     case IPL_DO_RECORDS: return ipl_w_ipl_port_open_records(m, 0, a, b, IPL_REQUEST, IPL_OUT);
     case IPL_DO_KEYS: return ipl_w_ipl_port_open_keys(m, 0, a, b, IPL_REQUEST, IPL_OUT);
+    case IPL_DO_MAKE: return ipl_w_ipl_port_make_reader(m, 0, a, IPL_REQUEST, IPL_OUT);
+    case IPL_DO_LOOK: return ipl_w_ipl_port_look(m, IPL_E(m)->handle, IPL_REQUEST, IPL_OUT);
+    case IPL_DO_READ: return ipl_w_ipl_port_read(m, IPL_E(m)->handle, IPL_REQUEST, IPL_OUT);
     default: return ipl_w_ipl_port_call(m, IPL_E(m)->handle, IPL_REQUEST, IPL_OUT);
     }
 }
@@ -172,10 +181,18 @@ IPL_ENGINE uint32_t ipl_engine_format(struct ipl_engine *e, uint32_t places, uin
 
 IPL_ENGINE uint32_t ipl_engine_check(struct ipl_engine *e, uint32_t places) { return ipl_run(e, IPL_DO_CHECK, places, 0); }
 
+/* A reader is made first, and looks its part over then. */
+static ipl_u32 ipl_open_reader(struct ipl_engine *e, ipl_u32 places) {
+    ipl_u32 answer = ipl_run(e, IPL_DO_MAKE, places, 0);
+    return answer == IPL_OK ? ipl_run(e, IPL_DO_LOOK, 0, 0) : answer;
+}
+
 IPL_ENGINE uint32_t ipl_engine_open(struct ipl_engine *e, enum ipl_engine_kind kind, const struct ipl_config *config) {
     ipl_engine_request(e)->session = config->sessions;
     ipl_engine_request(e)->name = config->numbers;
+    e->reads = kind == IPL_ENGINE_READER;
+    if (e->reads) return ipl_open_reader(e, config->places);
     return ipl_run(e, kind == IPL_ENGINE_KEYS ? IPL_DO_KEYS : IPL_DO_RECORDS, config->places, config->frames);
 }
 
-IPL_ENGINE uint32_t ipl_engine_call(struct ipl_engine *e) { return ipl_run(e, IPL_DO_CALL, 0, 0); }
+IPL_ENGINE uint32_t ipl_engine_call(struct ipl_engine *e) { return ipl_run(e, e->reads ? IPL_DO_READ : IPL_DO_CALL, 0, 0); }

@@ -63,12 +63,13 @@ enum {
 
 struct ipl_engine {
     ipl_u64 g[1];                    /* the module's globals: where its stack stands */
-    ipl_u64 handle;                  /* of the open store */
+    ipl_u64 handle;                  /* of the open store, or of a part that is only read */
     const struct ipl_driver *driver;
     ipl_place *trap;                 /* where a trap goes */
     ipl_a end;                       /* the memory's size less the slack */
     ipl_u32 heap;                    /* the first address that wasn't handed out */
     ipl_u32 trapped;
+    ipl_u32 reads;                   /* whether the part is only read */
 };
 typedef char ipl_the_head_is_large_enough[sizeof(struct ipl_engine) <= IPL_HEAD ? 1 : -1];
 

@@ -1,5 +1,6 @@
 /* Each answer by itself, over two parts at once: how many units, frames and records there are, room for committed
- * numbers, each fault of a get, batches of no session and of one. Of the part that isn't asked nothing changes. usage: answers */
+ * numbers, each fault of a get, a part that is only read, batches of no session and of one. Of the part that isn't asked nothing
+ * changes. usage: answers */
 #include "store.h"
 #include <stdio.h>
 #include <stdlib.h>
@@ -161,6 +162,97 @@ static void try_batches(void) {
     ipl_close(store);
 }
 
+/* ---- a part that is only read */
+
+static uint32_t number_at(const uint8_t *bytes) {
+    return (uint32_t)bytes[0] << 24 | (uint32_t)bytes[1] << 16 | (uint32_t)bytes[2] << 8 | bytes[3];
+}
+
+/* The sum of a sector, and where its head says that of what it is (docs/FORMAT.md). */
+enum { KIND = 4, UNIT = 8, GENERATION = 12, SUM = 28, PAYLOAD = 32, DATA_HEADER = 1 };
+
+static uint32_t sum_of(const uint8_t *sector) {
+    uint32_t sum = 0xFFFFFFFF;
+    for (uint32_t i = 0; i < SECTOR; i++) {
+        if (i >= SUM && i < PAYLOAD) continue;
+        sum ^= sector[i];
+        for (int bit = 0; bit < 8; bit++) sum = (sum & 1) != 0 ? sum >> 1 ^ 0xEDB88320 : sum >> 1;
+    }
+    return sum ^ 0xFFFFFFFF;
+}
+
+/* Where unit 0 stands: the place whose data header is the youngest of it. The generations of this part are below 2^32. */
+static uint32_t place_of_unit_0(void) {
+    uint32_t found = PLACES, youngest = 0;
+    for (uint32_t place = 0; place < PLACES; place++) {
+        const uint8_t *header = part_sector(PART, place, 0);
+        if (header[KIND] != DATA_HEADER || sum_of(header) != number_at(header + SUM) || number_at(header + UNIT) != 0) continue;
+        if (found < PLACES && number_at(header + GENERATION + 4) < youngest) continue;
+        found = place;
+        youngest = number_at(header + GENERATION + 4);
+    }
+    must(found < PLACES, "a header of unit 0");
+    return found;
+}
+
+/* One record a page of unit 0, in base sectors; a second one of page 1 and one of unit 1, in log sectors. */
+static int is_written(uint32_t name) { return (name < 960 && name % PAGE_SLOTS == 0) || name == PAGE_SLOTS + 6 || name == 961; }
+
+static void write_some(void) {
+    must(part_format(PART, PLACES, 0, NULL) == IPL_OK, "a format");
+    opens(4);
+    for (uint32_t page = 0; page < 15; page++) writes(store, page * PAGE_SLOTS, 1);
+    must(ipl_merge(store, 0) == IPL_OK, "a merge");
+    writes(store, PAGE_SLOTS + 6, 1);
+    writes(store, 961, 1);
+    ipl_close(store);
+}
+
+/* Each name of page 0 is answered this, with these four; each other one as it was written. Nothing is written. */
+static void is_read(enum ipl_answer wanted, const uint32_t *four) {
+    uint64_t writes_before = part_writes(PART);
+    uint8_t byte;
+    uint32_t len;
+    must(part_open_to_read(store, PART, PLACES, IPL_NUMBERS_LEAST) == IPL_OK, "an opening to read");
+    for (int turn = 0; turn < 2; turn++) {
+        for (uint32_t name = 0; name < ipl_unit_count(store) * IPL_UNIT_NAMES; name++) {
+            if (name >= PAGE_SLOTS || wanted == IPL_OK) {
+                must(has(store, name) == is_written(name), "a record that is read");
+                continue;
+            }
+            must(ipl_committed(store, name, &byte, 1, &len) == wanted && len == 0, "a page that doesn't read");
+            must(memcmp(ipl_detail(store), four, 4 * sizeof *four) == 0, "what is wrong with it");
+        }
+        must(ipl_committed(store, 4800, &byte, 1, &len) == IPL_BAD_NAME, "no name behind the last");
+        must(ipl_reopen(store) == IPL_OK, "a reopen");
+    }
+    part_set_ills(PART, unread);
+    must(ipl_committed(store, PAGE_SLOTS, &byte, 1, &len) == IPL_READ_FAULT && len == 0, "a read that fails");
+    must(ipl_reopen(store) == IPL_PART_UNREAD && ipl_committed(store, PAGE_SLOTS, &byte, 1, &len) == IPL_DOWN, "and a reopen");
+    part_set_ills(PART, none);
+    must(ipl_reopen(store) == IPL_OK && has(store, PAGE_SLOTS) && ipl_close(store) == IPL_OK, "and one that doesn't");
+    must(part_writes(PART) == writes_before, "nothing is written");
+}
+
+/* The first base sector of page 0 rots by a bit; then it is that of page 1. */
+static void try_rotten(void) {
+    static const uint32_t zeros[4];
+    uint8_t old[SECTOR], *first, *next;
+    write_some();
+    is_read(IPL_OK, zeros);
+    uint32_t place = place_of_unit_0();
+    first = part_sector(PART, place, 1);
+    next = part_sector(PART, place, 17);
+    memcpy(old, first, SECTOR);
+    must(number_at(first + SUM) == sum_of(first) && number_at(next + SUM) == sum_of(next), "the sums of two base sectors");
+    first[PAYLOAD] ^= 4;
+    is_read(IPL_DAMAGED, (uint32_t[]){place, 1, number_at(old + SUM), sum_of(first)});
+    memcpy(first, next, SECTOR);
+    is_read(IPL_MALFORMED, (uint32_t[]){place, 1, 0, 0});
+    memcpy(first, old, SECTOR);
+    is_read(IPL_OK, zeros);
+}
+
 /* ---- room for committed numbers */
 
 static struct ipl_config with_room_for(uint32_t numbers) {
@@ -201,6 +293,7 @@ static void try_many_numbers(void) {
     must(open_with(IPL_NUMBERS_LEAST) == IPL_MANY_NUMBERS && ipl_detail(store)[0] == 0, "a number more than have room");
     must(!is_open(store), "nothing is open");
     must(part_open_keys_with(&keys, PART, &few) == IPL_MANY_NUMBERS, "nor by keys");
+    must(part_open_to_read(store, PART, PLACES, IPL_NUMBERS_LEAST) == IPL_MANY_NUMBERS && !is_open(store), "nor to read");
     counts(IPL_NUMBERS_LEAST + 1);
     after = part_counts(PART);
     must(after.calls[PROGRAM] == before.calls[PROGRAM] && after.calls[ERASE] == before.calls[ERASE], "nothing is written");
@@ -275,6 +368,7 @@ int main(void) {
     try_reads();
     try_down();
     try_batches();
+    try_rotten();
     try_many_numbers();
     try_few_numbers();
     after = part_counts(OTHER);
@@ -287,6 +381,7 @@ int main(void) {
     ipl_close(&other);
     part_free(OTHER);
     part_free(PART);
-    printf("answers: units, frames, records, faults of a get, batches and numbers are as they must be, over two parts\n");
+    printf("answers: units, frames, records, faults of a get, parts that are only read, batches and numbers are as they must be, "
+           "over two parts\n");
     return 0;
 }

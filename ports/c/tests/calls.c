@@ -23,6 +23,7 @@ static int is_broken;            /* answers another number to one session */
 size_t ipl_engine_memory(const struct ipl_config *it) {
     return ENGINE_BYTES + it->places + 16 * (size_t)it->frames + 64 * (size_t)it->sessions + it->numbers;
 }
+size_t ipl_engine_read_memory(const struct ipl_config *it) { return ENGINE_BYTES + it->places + it->numbers; }
 size_t ipl_engine_check_memory(const struct ipl_config *it) { return ENGINE_BYTES + it->places; }
 size_t ipl_engine_format_memory(void) { return ENGINE_BYTES; }
 
@@ -220,6 +221,38 @@ static void reopen(struct ipl *s) {
     must(ipl_reopen(s) == IPL_OK && given[1] == 8 && given[3] == 20 && given[4] == 500 && ipl_begin(s, 0) == IPL_OK, "a reopen");
 }
 
+/* Of a part that is only read its units and its records are asked, and of another call nothing. */
+static void read_only(struct ipl *s, struct ipl_keys *k) {
+    static const uint32_t session = 3;
+    struct ipl_facts facts;
+    uint8_t value[IPL_VALUE];
+    uint32_t len = 5, before = calls;
+    answer = IPL_OK;
+    must(ipl_open_to_read(s, &first, &config, first_memory, ipl_read_memory(&config)) == IPL_OK, "an opening to read");
+    must(given[0] == 7 && given[2] == IPL_ENGINE_READER && given[4] == 500, "what it is asked");
+    must(calls == before + 1 && asked.op == 14 && ipl_unit_count(s) == unit_count, "its units");
+    found_len = 2;
+    was(ipl_committed(s, 9, value, sizeof value, &len), 4, 0, 9, "committed of a part that is only read");
+    must(len == 2 && value[1] == 0xEE, "what is found there");
+    must(ipl_committed(s, 9, value, 1, &len) == IPL_NO_ROOM && len == 2, "and has no room");
+    answer = IPL_DAMAGED;
+    must(ipl_committed(s, 9, value, sizeof value, &len) == IPL_DAMAGED && len == 0 && ipl_detail(s)[2] == 72, "a page that is damaged");
+    before = calls;
+    must(ipl_get(s, 0, 9, value, sizeof value, &len) == IPL_READ_ONLY && len == 0 && ipl_detail(s)[2] == 72, "a get is refused");
+    must(ipl_commit_all(s, &session, 1) == IPL_READ_ONLY && ipl_commit_all(s, NULL, 0) == IPL_READ_ONLY, "a commit of several");
+    must(ipl_abort_all(s) == IPL_READ_ONLY && ipl_shutdown(s, 0) == IPL_READ_ONLY && ipl_shutdown(s, 1) == IPL_READ_ONLY, "and a shutdown");
+    must(ipl_state(s, &facts) == IPL_OK && facts.frames == 0 && facts.sessions == 0 && facts.room == 500, "what is known");
+    must(facts.is_down == 0 && facts.retired == 0 && calls == before, "for which nothing is asked");
+    answer = IPL_OK;
+    must(ipl_reopen(s) == IPL_OK && given[2] == IPL_ENGINE_READER && given[0] == 7 && given[4] == 500, "a reopen to read");
+    must(ipl_close(s) == IPL_OK && ipl_committed(s, 9, value, sizeof value, &len) == IPL_NO_STORE, "a close of it");
+    /* In the struct of a store of keys it is no store of keys. */
+    must(ipl_open_to_read(&k->store, &first, &config, first_memory, sizeof first_memory) == IPL_OK, "an opening to read");
+    before = calls;
+    must(ipl_keys_begin(k, 0) == IPL_READ_ONLY && ipl_keys_get(k, 0, "key", 3, value, sizeof value, &len) == IPL_READ_ONLY, "by key");
+    must(ipl_keys_shutdown(k, 1) == IPL_READ_ONLY && calls == before && ipl_keys_close(k) == IPL_OK, "and a close");
+}
+
 int main(void) {
     struct ipl store;
     struct ipl_keys keys;
@@ -237,6 +270,7 @@ int main(void) {
     reopen(&store);
     must(ipl_close(&store) == IPL_OK && ipl_close(&store) == IPL_NO_STORE && ipl_unit_count(&store) == 0, "a close");
     must(ipl_keys_close(&keys) == IPL_OK && ipl_keys_close(&keys) == IPL_NO_STORE, "a close of keys");
+    read_only(&store, &keys);
     printf("calls: each makes one request of its number, with what it was given\n");
     return 0;
 }

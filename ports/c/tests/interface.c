@@ -1,5 +1,5 @@
 /* What ipl.h says beside the records: memory, versions, answers, rooms, handles, the list of open stores,
- * null pointers and numbers out of range, blank parts, what is known of a store. usage: interface */
+ * null pointers and numbers out of range, parts that are only read, blank parts, what is known of a store. usage: interface */
 #include "store.h"
 #include <stdio.h>
 #include <stdlib.h>
@@ -37,13 +37,29 @@ static void try_versions(void) {
     for (old.version = 0; old.version <= IPL_VERSION + 1; old.version += IPL_VERSION + 1) {
         must(ipl_open(&store, part_driver(PART), &old, memory, sizeof memory) == IPL_OTHER_VERSION, "another version");
         must(ipl_detail(&store)[0] == IPL_VERSION, "which is told");
+        must(ipl_open_to_read(&store, part_driver(PART), &old, memory, sizeof memory) == IPL_OTHER_VERSION, "to read too");
         must(ipl_memory(&old) == 0 && ipl_check_memory(&old) == 0 && ipl_format_memory(&old) == 0, "its memory");
+        must(ipl_read_memory(&old) == 0, "to read");
     }
 }
 
 /* ---- memory */
 
-/* Opens and checks in exactly as many bytes as are wanted, from this distance of a multiple of 16 on. */
+/* Opens to read in exactly as many bytes as are wanted, where name 3 has three bytes. */
+static void read_exactly(const struct ipl_config *some, uint8_t *at, const uint8_t *end) {
+    size_t wanted = ipl_read_memory(some);
+    uint8_t value[3];
+    uint32_t len;
+    memset(at, GUARD, (size_t)(end - at));
+    must(ipl_open_to_read(&store, part_driver(PART), some, at, wanted) == IPL_OK, "an opening to read in as much as is wanted");
+    must(ipl_committed(&store, 3, value, 3, &len) == IPL_OK && len == 3 && memcmp(value, "abc", 3) == 0, "what it reads");
+    must(ipl_committed(&store, 960, value, 3, &len) == IPL_NOTHING && ipl_close(&store) == IPL_OK, "and what isn't there");
+    for (const uint8_t *p = at + wanted; p < end; p++) must(*p == GUARD, "bytes behind a reader's");
+    must(ipl_open_to_read(&store, part_driver(PART), some, at, wanted - 1) == IPL_SMALL_MEMORY, "a byte less to read");
+    must(ipl_detail(&store)[0] == wanted, "how many are wanted to read");
+}
+
+/* Opens, reads and checks in exactly as many bytes as are wanted, from this distance of a multiple of 16 on. */
 static void open_exactly(const struct ipl_config *some, size_t distance) {
     size_t wanted = ipl_memory(some), checked = ipl_check_memory(some), most = wanted > checked ? wanted : checked;
     /* Up to 15 bytes come before a multiple of 16, and as many are its distance. */
@@ -61,6 +77,8 @@ static void open_exactly(const struct ipl_config *some, size_t distance) {
     must(records == 1, "its record");
     for (const uint8_t *p = room; p < at; p++) must(*p == GUARD, "bytes before the memory");
     for (const uint8_t *p = at + most; p < room + size; p++) must(*p == GUARD, "bytes behind a check's");
+    read_exactly(some, at, room + size);
+    for (const uint8_t *p = room; p < at; p++) must(*p == GUARD, "bytes before a reader's");
     must(ipl_open(&store, part_driver(PART), some, at, wanted - 1) == IPL_SMALL_MEMORY, "a byte less");
     must(ipl_detail(&store)[0] == wanted, "how many are wanted");
     must(ipl_check(&store, part_driver(PART), some, at, checked - 1, &records) == IPL_SMALL_MEMORY, "a byte less for a check");
@@ -80,6 +98,9 @@ static void try_memory(void) {
             must(ipl_memory(&few) != 0 && ipl_memory(&few) <= IPL_MEMORY_OF(places, some, 1), "also with one session");
             must(ipl_memory(&least) != 0 && ipl_memory(&least) <= IPL_MEMORY_WITH(places, some, 1, IPL_NUMBERS_LEAST),
                  "and with the least numbers");
+            must(ipl_read_memory(&it) != 0 && ipl_read_memory(&it) <= IPL_READ_MEMORY(places), "the macro to read");
+            must(ipl_read_memory(&least) <= IPL_READ_MEMORY_WITH(places, IPL_NUMBERS_LEAST), "and with the least numbers");
+            must(ipl_read_memory(&few) <= ipl_memory(&few) && ipl_read_memory(&least) <= ipl_memory(&least), "an opening's does to read");
             must(ipl_check_memory(&few) <= ipl_memory(&few), "that with all numbers does for a check");
             must(ipl_format_memory(&it) <= ipl_check_memory(&it), "and a check's for a format");
             must(ipl_format_memory(&least) <= ipl_memory(&least), "as the least opening's");
@@ -95,6 +116,8 @@ static void try_memory(void) {
         struct ipl_config it = IPL_CONFIG_WITH(PLACES, FRAMES, 1, IPL_SESSIONS, numbers);
         must(ipl_memory(&it) <= IPL_MEMORY_WITH(PLACES, FRAMES, IPL_SESSIONS, numbers), "the macro for numbers");
         must(ipl_memory(&all) - ipl_memory(&it) == 8 * (IPL_NUMBERS_MOST - numbers) + 2 * (1913 - (numbers + 7) / 8), "what numbers take");
+        must(ipl_read_memory(&it) <= IPL_READ_MEMORY_WITH(PLACES, numbers), "the macro to read, for numbers");
+        must(ipl_memory(&all) - ipl_memory(&it) == ipl_read_memory(&all) - ipl_read_memory(&it), "to read they take as many");
         must(ipl_check_memory(&it) == ipl_check_memory(&all), "a check has room for all of them");
     }
     for (size_t i = 0; i < sizeof numbers / sizeof *numbers; i++) {
@@ -131,8 +154,8 @@ static void try_answers(void) {
         must(ipl_is_refused(answer) == (a >= 2 && a < 40), "which answers are refusals");
         must(ipl_is_up(answer) == (a < 60), "which answers leave a store up");
     }
-    must(texts == 2 + 34 + 4 + 5 + 14, "how many answers there are");
-    must(ipl_is_refused(IPL_BAD_SESSION) && ipl_is_refused(IPL_BAD_SPARES) && !ipl_is_refused(IPL_NOTHING), "refusals");
+    must(texts == 2 + 35 + 4 + 5 + 14, "how many answers there are");
+    must(ipl_is_refused(IPL_BAD_SESSION) && ipl_is_refused(IPL_READ_ONLY) && !ipl_is_refused(IPL_NOTHING), "refusals");
     must(ipl_is_up(IPL_BAD_BUCKET) && !ipl_is_up(IPL_DOWN) && !ipl_is_up(IPL_PART_SPENT), "stores that are up");
 }
 
@@ -228,6 +251,7 @@ static void refuse_part(const struct ipl_driver *driver, const char *what) {
     must(ipl_format(&second, driver, &config, more, sizeof more) == IPL_PART_IN_USE, what);
     must(ipl_check(&second, driver, &config, more, sizeof more, &records) == IPL_PART_IN_USE && records == 0, what);
     must(ipl_keys_open(&keys, driver, &config, more, sizeof more) == IPL_PART_IN_USE, what);
+    must(ipl_open_to_read(&second, driver, &config, more, sizeof more) == IPL_PART_IN_USE, what);
     must(ipl_begin(&second, 0) == IPL_NO_STORE, "nothing is opened by it");
 }
 
@@ -277,6 +301,10 @@ static void refuse(struct ipl_config bad, enum ipl_answer opens, enum ipl_answer
     must((ipl_memory(&bad) == 0) == (opens != IPL_OK), "its memory");
     must(formats == IPL_OK || ipl_format(&store, driver, &bad, memory, sizeof memory) == formats, "of a format");
     must((ipl_format_memory(&bad) == 0) == (formats != IPL_OK), "its memory for a format");
+    /* An opening to read looks at the places and the numbers alone. */
+    int is_read = opens != IPL_BAD_PLACES && opens != IPL_BAD_NUMBERS;
+    must(is_read || ipl_open_to_read(&store, driver, &bad, memory, sizeof memory) == opens, "of an opening to read");
+    must((ipl_read_memory(&bad) != 0) == is_read, "its memory to read");
     if (opens == IPL_BAD_PLACES)
         must(ipl_check(&store, driver, &bad, memory, sizeof memory, &records) == opens, "of a check");
 }
@@ -293,6 +321,7 @@ static void refuse_sizes(uint32_t sessions, uint32_t numbers, enum ipl_answer op
 static void refuse_driver(struct ipl_driver driver) {
     uint32_t records;
     must(ipl_open(&store, &driver, &config, memory, sizeof memory) == IPL_NULL_POINTER, "a driver that wants a function");
+    must(ipl_open_to_read(&store, &driver, &config, memory, sizeof memory) == IPL_NULL_POINTER, "in an opening to read");
     must(ipl_format(&store, &driver, &config, memory, sizeof memory) == IPL_NULL_POINTER, "in a format");
     must(ipl_check(&store, &driver, &config, memory, sizeof memory, &records) == IPL_NULL_POINTER, "in a check");
 }
@@ -302,6 +331,9 @@ static void try_nulls_of_parts(void) {
     uint32_t records;
     struct ipl_driver some = *driver;
     must(ipl_memory(NULL) == 0 && ipl_check_memory(NULL) == 0 && ipl_format_memory(NULL) == 0, "no config's memory");
+    must(ipl_read_memory(NULL) == 0, "to read");
+    must(ipl_open_to_read(NULL, driver, &config, memory, sizeof memory) == IPL_NULL_POINTER, "no struct to read");
+    must(ipl_open_to_read(&store, driver, NULL, memory, sizeof memory) == IPL_NULL_POINTER, "no config to read");
     must(ipl_open(NULL, driver, &config, memory, sizeof memory) == IPL_NULL_POINTER, "no struct");
     must(ipl_open(&store, NULL, &config, memory, sizeof memory) == IPL_NULL_POINTER, "no driver");
     must(ipl_open(&store, driver, NULL, memory, sizeof memory) == IPL_NULL_POINTER, "no config");
@@ -446,6 +478,75 @@ static void try_kinds(void) {
     must(ipl_close(&store) == IPL_OK, "a close");
 }
 
+/* ---- a part that is only read */
+
+/* Each call that would write, and each that wants a session, is refused, by name and by key, also where its pointers are NULL. */
+static void refuses_all(struct ipl_keys *k) {
+    struct ipl *s = &k->store;
+    uint8_t value[8];
+    uint32_t len = 9, session = 0;
+    must(ipl_begin(s, 0) == IPL_READ_ONLY && ipl_begin(s, 32) == IPL_READ_ONLY, "a begin");
+    must(ipl_get(s, 0, 9, value, 8, &len) == IPL_READ_ONLY && len == 0, "a get");
+    must(ipl_share(s, 0, 9, value, 8, &len) == IPL_READ_ONLY && len == 0, "a share");
+    must(ipl_put(s, 0, 9, "a", 1) == IPL_READ_ONLY && ipl_put(s, 0, 9, NULL, 1) == IPL_READ_ONLY, "a put");
+    must(ipl_del(s, 0, 9) == IPL_READ_ONLY && ipl_commit(s, 0) == IPL_READ_ONLY, "a del and a commit");
+    must(ipl_commit_all(s, &session, 1) == IPL_READ_ONLY && ipl_commit_all(s, NULL, 0) == IPL_READ_ONLY, "a commit of several");
+    must(ipl_abort(s, 0) == IPL_READ_ONLY && ipl_abort_all(s) == IPL_READ_ONLY, "an abort");
+    must(ipl_merge(s, 0) == IPL_READ_ONLY && ipl_hold(s, 0, 0) == IPL_READ_ONLY && ipl_release(s, 0, 0) == IPL_READ_ONLY, "a merge");
+    must(ipl_shutdown(s, 0) == IPL_READ_ONLY && ipl_shutdown(s, 1) == IPL_READ_ONLY, "a shutdown");
+    must(ipl_keys_begin(k, 0) == IPL_READ_ONLY && ipl_keys_commit(k, 0) == IPL_READ_ONLY, "a begin of keys");
+    must(ipl_keys_get(k, 0, "k", 1, value, 8, &len) == IPL_READ_ONLY && len == 0, "a get by key");
+    must(ipl_keys_put(k, 0, "k", 1, "v", 1) == IPL_READ_ONLY && ipl_keys_del(k, 0, "k", 1) == IPL_READ_ONLY, "a put by key");
+    must(ipl_keys_share(k, 0, "k", 1) == IPL_READ_ONLY && ipl_keys_abort(k, 0) == IPL_READ_ONLY, "a share of a key");
+    must(ipl_keys_commit_all(k, &session, 1) == IPL_READ_ONLY && ipl_keys_abort_all(k) == IPL_READ_ONLY, "several of keys");
+    must(ipl_keys_merge(k, 0) == IPL_READ_ONLY && ipl_keys_shutdown(k, 1) == IPL_READ_ONLY, "a merge of keys");
+}
+
+/* What is answered of record 9, which has three bytes, of the last name, and of one behind it. */
+static void reads_one(struct ipl *s) {
+    uint8_t value[8];
+    uint32_t len;
+    must(ipl_committed(s, 9, value, 8, &len) == IPL_OK && len == 3 && memcmp(value, "abc", 3) == 0, "a record");
+    must(ipl_committed(s, 9, value, 2, &len) == IPL_NO_ROOM && len == 3 && ipl_detail(s)[0] == 3, "and its room");
+    must(ipl_committed(s, 960 * (PLACES - 5) - 1, value, 8, &len) == IPL_NOTHING && len == 0, "no record");
+    must(ipl_committed(s, 960 * (PLACES - 5), value, 8, &len) == IPL_BAD_NAME && len == 0, "no such name");
+    must(ipl_committed(s, 9, NULL, 8, &len) == IPL_NULL_POINTER && ipl_committed(s, 9, value, 8, NULL) == IPL_NULL_POINTER, "no room");
+}
+
+static void try_reader(void) {
+    const struct ipl_driver *driver = part_driver(PART);
+    struct ipl_config bare = IPL_CONFIG_WITH(PLACES, 0, 99, 0, IPL_NUMBERS_LEAST);
+    struct ipl_facts facts, later;
+    struct ipl copy, *s = &keys.store;
+    format_it();
+    must(open_it() == IPL_OK && ipl_begin(&store, 0) == IPL_OK && ipl_put(&store, 0, 9, "abc", 3) == IPL_OK, "a put");
+    must(ipl_commit(&store, 0) == IPL_OK && ipl_begin(&store, 0) == IPL_OK && ipl_put(&store, 0, 9, "x", 1) == IPL_OK, "a commit");
+    must(ipl_close(&store) == IPL_OK, "a close");
+    uint64_t writes = part_writes(PART), reads = part_counts(PART).calls[READ];
+    must(ipl_open_to_read(s, driver, &bare, memory, ipl_read_memory(&bare)) == IPL_OK, "an opening to read");
+    must(ipl_unit_count(s) == PLACES - 5 && ipl_keys_unit_count(&keys) == PLACES - 5, "its units");
+    reads_one(s);
+    refuses_all(&keys);
+    reads_one(s);
+    must(ipl_state(s, &facts) == IPL_OK && facts.places == PLACES && facts.units == PLACES - 5 && facts.spares == 1, "what is known");
+    must(facts.frames == 0 && facts.sessions == 0 && facts.room == IPL_NUMBERS_LEAST && facts.is_down == 0, "of a reader");
+    must(facts.reads == part_counts(PART).calls[READ] - reads && facts.reads != 0, "its reads");
+    must(facts.programs == 0 && facts.erases == 0 && facts.barriers == 0 && facts.failures == 0 && facts.worn == 0, "and nothing else");
+    must(facts.retired == 0 && facts.most_erases == 0 && facts.clean_logs == 0 && facts.numbers == 0, "nor what is left");
+    /* It is an open store to all others. */
+    must(ipl_open(&second, driver, &config, more, sizeof more) == IPL_PART_IN_USE, "its part is in use");
+    must(ipl_open_to_read(s, part_driver(OTHER), &config, more, sizeof more) == IPL_STORE_IN_USE, "and its struct");
+    must(ipl_open_to_read(&second, part_driver(OTHER), &config, memory, sizeof memory) == IPL_MEMORY_IN_USE, "and its memory");
+    copy = *s;
+    must(ipl_close(&copy) == IPL_NO_STORE, "a copy is none");
+    must(ipl_reopen(s) == IPL_OK && ipl_state(s, &later) == IPL_OK && later.reads > facts.reads && later.units == PLACES - 5, "a reopen");
+    reads_one(s);
+    must(ipl_abandon(s) == IPL_OK, "no call to abandon");
+    reads_one(s);
+    must(ipl_keys_close(&keys) == IPL_OK && ipl_close(s) == IPL_NO_STORE && ipl_unit_count(s) == 0, "a close");
+    must(part_writes(PART) == writes, "nothing was written");
+}
+
 /* ---- blank parts */
 
 static int holds_nothing(void) {
@@ -461,6 +562,7 @@ static void all_answer(enum ipl_answer wanted, const char *what) {
     uint32_t records;
     must(ipl_open(&store, driver, &config, memory, sizeof memory) == wanted, what);
     must(ipl_keys_open(&keys, driver, &config, memory, sizeof memory) == wanted, what);
+    must(ipl_open_to_read(&store, driver, &config, memory, sizeof memory) == wanted, what);
     must(ipl_check(&store, driver, &config, memory, ipl_check_memory(&config), &records) == wanted, what);
 }
 
@@ -610,6 +712,8 @@ static void try_state(void) {
     part_set_ills(PART, none);
     must(ipl_state(&store, &state) == IPL_OK && state.worn == 2 && state.retired == 1 && state.is_down == 1, "which is known");
     must(ipl_close(&store) == IPL_OK, "a close");
+    must(ipl_open_to_read(&store, part_driver(PART), &config, memory, sizeof memory) == IPL_OK, "an opening to read of a worn part");
+    must(ipl_committed(&store, 9, value, 8, &len) == IPL_OK && memcmp(value, "abc", 3) == 0 && ipl_close(&store) == IPL_OK, "its record");
     part_mend(PART);
     format_it();
     must(open_it() == IPL_OK, "an opening");
@@ -618,8 +722,11 @@ static void try_state(void) {
     must(ipl_state(&store, &state) == IPL_OK && state.failures == 1 && state.is_down == 1, "is counted");
     must(ipl_reopen(&store) == IPL_PART_STOPPED && ipl_begin(&store, 0) == IPL_DOWN, "a reopen that fails");
     must(ipl_abort_all(&store) == IPL_DOWN && ipl_shutdown(&store, 1) == IPL_DOWN, "a store that is down");
+    must(ipl_close(&store) == IPL_OK && open_it() == IPL_PART_STOPPED, "nor is it opened");
+    must(ipl_open_to_read(&store, part_driver(PART), &config, memory, sizeof memory) == IPL_OK, "but to read, where nothing can be written");
+    must(ipl_committed(&store, 9, value, 8, &len) == IPL_NOTHING && ipl_close(&store) == IPL_OK, "and was formatted");
     part_set_ills(PART, none);
-    must(ipl_reopen(&store) == IPL_OK && ipl_close(&store) == IPL_OK, "and one that doesn't");
+    must(open_it() == IPL_OK && ipl_close(&store) == IPL_OK, "and one that doesn't");
 }
 
 int main(void) {
@@ -634,6 +741,7 @@ int main(void) {
     try_list();
     try_bad_input();
     try_kinds();
+    try_reader();
     try_blank();
     try_cut_format();
     try_left();
@@ -643,7 +751,7 @@ int main(void) {
     try_state();
     part_free(PART);
     part_free(OTHER);
-    printf("interface: memory, versions, answers, rooms, handles, open parts, bad input, blank parts and what is known "
-           "of a store are as ipl.h says\n");
+    printf("interface: memory, versions, answers, rooms, handles, open parts, bad input, parts that are only read, blank parts "
+           "and what is known of a store are as ipl.h says\n");
     return 0;
 }

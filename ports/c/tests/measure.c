@@ -81,7 +81,7 @@ static void *use(void *it) {
     struct size *size = it;
     struct ipl_config config = IPL_CONFIG(size->places, size->frames, 0);
     uint32_t names = (size->places - 4) * 960, found;
-    size_t wanted = ipl_memory(&config), checked = ipl_check_memory(&config), left;
+    size_t wanted = ipl_memory(&config), checked = ipl_check_memory(&config), looked = ipl_read_memory(&config), left, check_left;
     uint8_t *memory = malloc(wanted);
     must(memory != NULL, "room for a store");
     must(ipl_format(&store, &driver, &config, memory, wanted) == IPL_OK, "format");
@@ -93,8 +93,13 @@ static void *use(void *it) {
     left = unwritten(memory, wanted);
     memset(memory, UNWRITTEN, wanted);
     must(ipl_check(&store, &driver, &config, memory, checked, &found) == IPL_OK, "check");
-    printf("memory: %u places, %u frames: %zu bytes, of which the last %zu were never written; a check %zu, %zu; "
-           "a format %zu\n", size->places, size->frames, wanted, left, checked, unwritten(memory, checked),
+    check_left = unwritten(memory, checked);
+    memset(memory, UNWRITTEN, wanted);
+    must(ipl_open_to_read(&store, &driver, &config, memory, looked) == IPL_OK, "open to read");
+    for (uint32_t name = 0; name < names; name++) must(ipl_is_up(ipl_committed(&store, name, NULL, 0, &found)), "a record");
+    must(ipl_close(&store) == IPL_OK, "close");
+    printf("memory: %u places, %u frames: %zu bytes, of which the last %zu were never written; to read %zu, %zu; a check %zu, %zu; "
+           "a format %zu\n", size->places, size->frames, wanted, left, looked, unwritten(memory, looked), checked, check_left,
            ipl_format_memory(&config));
     free(memory);
     return NULL;

@@ -84,6 +84,12 @@ void part_cut_after(uint32_t part, uint64_t k) { parts[part].until_cut = k; }
 void part_set_ills(uint32_t part, struct part_ills ills) { parts[part].ills = ills; }
 struct part_counts part_counts(uint32_t part) { return parts[part].counts; }
 
+uint64_t part_writes(uint32_t part) {
+    const uint64_t *calls = parts[part].counts.calls;
+    return calls[PROGRAM] + calls[ERASE] + calls[BARRIER];
+}
+
+
 int part_power_on(uint32_t part) {
     int was = parts[part].off;
     parts[part].off = 0;

@@ -37,6 +37,8 @@ void part_cut_after(uint32_t part, uint64_t k);
 int part_power_on(uint32_t part);
 void part_set_ills(uint32_t part, struct part_ills ills);
 struct part_counts part_counts(uint32_t part);
+/* How often it was asked to program, to erase, or for a barrier. */
+uint64_t part_writes(uint32_t part);
 
 /* The same numbers in each run. */
 uint32_t any_number(void);

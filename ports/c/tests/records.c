@@ -27,7 +27,7 @@ static const char *const call_names[CALLS] = {
     "begin", "get", "share", "committed", "put", "del", "commit", "batch", "abort", "merge", "hold",
     "shutdown", "opening"
 };
-static uint64_t cuts[CALLS], commits, wholes, nones, refused, reads_held, shutdowns;
+static uint64_t cuts[CALLS], commits, wholes, nones, refused, reads_held, shutdowns, readings;
 static uint64_t seed;
 
 static void die(const char *what, int answer) {
@@ -130,14 +130,30 @@ static void open_again(void) {
     }
 }
 
+/* Whether a part that is opened to be read has exactly these records. Nothing is written by that, and nothing is open then. */
+static int is_read(const struct record *all) {
+    uint64_t writes = part_writes(0);
+    ipl_close(store);
+    enum ipl_answer answer = part_open_to_read(store, 0, PLACES, ALL_NUMBERS);
+    must(answer == IPL_OK && ipl_unit_count(store) == UNITS, "an opening to read", answer);
+    int found = has(all);
+    must(ipl_close(store) == IPL_OK && part_writes(0) == writes, "an opening to read wrote", 0);
+    readings++;
+    return found;
+}
+
 /* After a call: whether it is to be looked at. Where the power went in it all sessions are gone, and of
  * those that were being committed all writes are there, or none. */
 static int goes_on(enum call call, int answer, const uint32_t *committing, uint32_t count) {
     if (!part_power_on(0)) return 1;
     must(answer == IPL_STOPPED || answer == IPL_READ_FAULT, "a call that was cut", answer);
     cuts[call]++;
+    /* What a cut left is read as the store has it once it is open. */
+    int is_tried = any_below(4) == 0, was_read = is_tried && is_read(kept), was_kept;
     open_again();
-    if (!has(kept)) {
+    was_kept = has(kept);
+    must(!is_tried || was_read == was_kept, "what was read before an opening", answer);
+    if (!was_kept) {
         for (uint32_t i = 0; i < count; i++) keep(committing[i]);
         must(count != 0 && has(kept), "a cut left another state", answer);
         wholes++;
@@ -356,6 +372,7 @@ int main(int argc, char **argv) {
     try_shutdown();
     ipl_close(store);
     must(ipl_begin(store, 0) == IPL_NO_STORE && ipl_unit_count(store) == 0, "a closed store", 0);
+    must(is_read(kept), "the records, as they are read", 0);
     for (uint32_t name = 0; name < NAMES; name++) records += kept[name].there;
     must(part_check(0, PLACES, &found, NULL) == IPL_OK && found == records, "the check", (int)found);
 
@@ -367,11 +384,11 @@ int main(int argc, char **argv) {
     for (int i = 0; i < CALLS; i++)
         if (cuts[i]) printf("%s %llu, ", call_names[i], (unsigned long long)cuts[i]);
     printf("at programs %llu, erases %llu, barriers %llu); %llu commits whole by a cut, %llu writes refused "
-           "for room, %llu holds, %llu shutdowns, %llu reads made again, %u records at the end\n",
+           "for room, %llu holds, %llu shutdowns, %llu reads made again, %llu openings to read, %u records at the end\n",
            (unsigned long long)counts.cuts[PROGRAM], (unsigned long long)counts.cuts[ERASE],
            (unsigned long long)counts.cuts[BARRIER], (unsigned long long)wholes,
            (unsigned long long)refused, (unsigned long long)reads_held, (unsigned long long)shutdowns,
-           (unsigned long long)counts.flips, records);
+           (unsigned long long)counts.flips, (unsigned long long)readings, records);
     part_free(0);
     return 0;
 }

@@ -46,6 +46,7 @@ static void call_store(void) {
     must(ipl_keys_begin((struct ipl_keys *)(void *)&store, 0) == IPL_BUSY, "a key");
     must(ipl_open(&store, part_driver(1), &config, more, sizeof more) == IPL_STORE_IN_USE, "an opening of the struct");
     must(ipl_open(&second, &store.driver, &config, more, sizeof more) == IPL_PART_IN_USE, "an opening of the part");
+    must(ipl_open_to_read(&second, &store.driver, &config, more, sizeof more) == IPL_PART_IN_USE, "one to read");
     must(ipl_format(&second, &store.driver, &config, more, sizeof more) == IPL_PART_IN_USE, "a format");
     must(ipl_check(&second, &store.driver, &config, more, sizeof more, &records) == IPL_PART_IN_USE, "a check");
     must(memcmp(&before, &store, sizeof store) == 0, "a store that is as it was");
@@ -104,6 +105,10 @@ static void work(void) {
     must(ipl_reopen(&store) == IPL_OK && ipl_hold(&store, 0, 3) == IPL_OK && ipl_release(&store, 0, 3) == IPL_OK, "a hold");
     must(ipl_shutdown(&store, 0) == IPL_OK && ipl_close(&store) == IPL_OK, "a shutdown");
     must(ipl_check(&store, &driver, &config, memory, sizeof memory, &records) == IPL_OK && records == 60, "a check");
+    must(ipl_open_to_read(&store, &driver, &config, memory, sizeof memory) == IPL_OK, "an opening to read");
+    for (uint32_t i = 0; i < 60; i++)
+        must(ipl_committed(&store, i * 37 % NAMES, value, sizeof value, &records) == IPL_OK && records == VALUE, "a record that is read");
+    must(ipl_reopen(&store) == IPL_OK && ipl_close(&store) == IPL_OK, "a reopen to read");
 }
 
 /* The part is asked the same with calls from its driver and without. */
@@ -255,6 +260,28 @@ static void try_brief(void) {
     must(ipl_check(&store, &driver, &config, memory, sizeof memory, &records) == IPL_OK, "and made again");
 }
 
+/* An opening to read that is left, and a record of a part that is only read. */
+static void try_reader(void) {
+    static uint32_t len;
+    until_jump = 9;
+    if (setjmp(back) == 0) {
+        ipl_open_to_read(&store, &driver, &config, memory, sizeof memory);
+        must(0, "an opening to read that isn't left");
+    }
+    must(ipl_committed(&store, 0, NULL, 0, &len) == IPL_BUSY, "an opening to read that was left");
+    must(ipl_abandon(&store) == IPL_OK && ipl_committed(&store, 0, NULL, 0, &len) == IPL_NO_STORE, "is abandoned");
+    must(ipl_open_to_read(&store, &driver, &config, memory, sizeof memory) == IPL_OK, "and made again");
+    until_jump = 1;
+    if (setjmp(back) == 0) {
+        ipl_committed(&store, 0, NULL, 0, &len);
+        must(0, "a record that isn't left");
+    }
+    must(ipl_begin(&store, 0) == IPL_BUSY && ipl_abandon(&store) == IPL_OK, "a record that is left");
+    must(ipl_committed(&store, 0, NULL, 0, &len) == IPL_DOWN && ipl_begin(&store, 0) == IPL_READ_ONLY, "of a part that can't be read then");
+    must(ipl_reopen(&store) == IPL_OK && ipl_committed(&store, 0, NULL, 0, &len) == IPL_NOTHING, "until a reopen");
+    must(ipl_close(&store) == IPL_OK, "and a close");
+}
+
 int main(int argc, char **argv) {
     uint64_t wanted = argc > 1 ? strtoull(argv[1], NULL, 10) : 2000;
     any_begin(argc > 2 ? strtoull(argv[2], NULL, 10) : 1);
@@ -262,6 +289,7 @@ int main(int argc, char **argv) {
     try_calls();
     part_new(0, PLACES);
     try_brief();
+    try_reader();
     must(ipl_open(&store, &driver, &config, memory, sizeof memory) == IPL_OK, "an opening");
     while (jumps < wanted) {
         if (setjmp(back) != 0) {

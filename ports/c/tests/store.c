@@ -60,6 +60,12 @@ enum ipl_answer part_open_keys_with(struct ipl_keys *k, uint32_t part, const str
     return ipl_keys_open(k, part_driver(part), config, memory_for(&k->store, size), size);
 }
 
+enum ipl_answer part_open_to_read(struct ipl *s, uint32_t part, uint32_t places, uint32_t numbers) {
+    struct ipl_config config = IPL_CONFIG_WITH(places, 0, 0, 0, numbers);
+    size_t size = ipl_read_memory(&config);
+    return ipl_open_to_read(s, part_driver(part), &config, memory_for(s, size), size);
+}
+
 enum ipl_answer part_open(struct ipl *s, uint32_t part, uint32_t places, uint32_t frames) {
     struct ipl_config config = IPL_CONFIG(places, frames, 0);
     return part_open_with(s, part, &config);

@@ -11,6 +11,8 @@ enum ipl_answer part_format(uint32_t part, uint32_t places, uint32_t spares, uin
 enum ipl_answer part_check(uint32_t part, uint32_t places, uint32_t *records, uint32_t *detail);
 enum ipl_answer part_open_with(struct ipl *s, uint32_t part, const struct ipl_config *config);
 enum ipl_answer part_open_keys_with(struct ipl_keys *k, uint32_t part, const struct ipl_config *config);
+/* To read alone, with room for so many committed numbers. */
+enum ipl_answer part_open_to_read(struct ipl *s, uint32_t part, uint32_t places, uint32_t numbers);
 /* With 32 sessions and room for all committed numbers. */
 enum ipl_answer part_open(struct ipl *s, uint32_t part, uint32_t places, uint32_t frames);
 enum ipl_answer part_open_keys(struct ipl_keys *k, uint32_t part, uint32_t places, uint32_t frames);

@@ -29,6 +29,23 @@ static void look_at_all(uint32_t part) {
     }
 }
 
+/* What is read of a part without writing to it: all records that were answered; and where the store went down in the commit of a
+ * number, that or what was there before. */
+static void read_out(uint32_t part, uint32_t name, uint32_t number) {
+    struct ipl *s = &stores[part];
+    uint64_t writes = part_writes(part);
+    uint32_t found = 0, len;
+    uint8_t value[IPL_VALUE];
+    enum ipl_answer answer = part_open_to_read(s, part, PLACES, IPL_NUMBERS_MOST);
+    must(answer == IPL_OK && ipl_unit_count(s) == PLACES - 4 - SPARES, "an opening to read", answer);
+    answer = ipl_committed(s, name, value, sizeof value, &len);
+    if (answer == IPL_OK) memcpy(&found, value, sizeof found);
+    if (found == number) kept[part][name] = number;
+    look_at_all(part);
+    must(ipl_begin(s, 5) == IPL_READ_ONLY && ipl_close(s) == IPL_OK, "which reads alone", 0);
+    must(part_writes(part) == writes, "and wrote nothing", 0);
+}
+
 /* Commits one record to a part: whether its store goes on. */
 static int commit_one(uint32_t part) {
     struct ipl *s = &stores[part];
@@ -58,6 +75,7 @@ static int commit_one(uint32_t part) {
          "an opening of a worn part", answer);
     shut += answer != IPL_OK;
     ipl_close(s);
+    read_out(part, name, number);
     worn++;
     return 0;
 }
@@ -89,7 +107,8 @@ int main(int argc, char **argv) {
             part_free(part);
         }
     }
-    printf("wear: %llu commits on %d pairs of parts, until %llu were worn out, of which %llu didn't open again\n",
+    printf("wear: %llu commits on %d pairs of parts, until %llu were worn out, of which %llu didn't open again, and of "
+           "each all records were read\n",
            (unsigned long long)commits, rounds, (unsigned long long)worn, (unsigned long long)shut);
     return 0;
 }

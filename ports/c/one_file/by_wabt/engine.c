@@ -20,7 +20,7 @@ struct ipl_engine {
     Z_ipl_instance_t instance;
     const struct ipl_driver *driver;
     uint64_t heap, end, handle;
-    int trapped;
+    int trapped, reads;
 };
 
 /* ---- what wasm2c wants */
@@ -116,6 +116,9 @@ size_t ipl_engine_memory(const struct ipl_config *config) {
     return least() + 28673 + bytes_of_places(config->places) + 16728 * (size_t)config->frames + 2600 * (size_t)config->sessions
            + 8 * (size_t)config->numbers + 2 * (((size_t)config->numbers + 7) / 8);
 }
+size_t ipl_engine_read_memory(const struct ipl_config *config) {
+    return least() + 31475 + bytes_of_places(config->places) + 8 * (size_t)config->numbers + 2 * (((size_t)config->numbers + 7) / 8);
+}
 size_t ipl_engine_check_memory(const struct ipl_config *config) { return least() + 140482 + bytes_of_places(config->places); }
 size_t ipl_engine_format_memory(void) { return least(); }
 
@@ -133,7 +136,7 @@ struct ipl_engine *ipl_engine_raise(void *memory, size_t size, const struct ipl_
 
 struct ipl_request *ipl_engine_request(struct ipl_engine *e) { return &e->request; }
 
-enum what { FORMAT, CHECK, RECORDS, KEYS, CALL };
+enum what { FORMAT, CHECK, RECORDS, KEYS, MAKE, LOOK, CALL, READING };
 
 static uint32_t run(struct ipl_engine *e, enum what what, uint32_t a, uint32_t b) {
     jmp_buf here, *outer = landing;
@@ -152,6 +155,9 @@ static uint32_t run(struct ipl_engine *e, enum what what, uint32_t a, uint32_t b
         case CHECK: answer = Z_iplZ_ipl_port_check(m, 0, a, REQUEST); break;
         case RECORDS: answer = Z_iplZ_ipl_port_open_records(m, 0, a, b, REQUEST, OUT); break;
         case KEYS: answer = Z_iplZ_ipl_port_open_keys(m, 0, a, b, REQUEST, OUT); break;
+        case MAKE: answer = Z_iplZ_ipl_port_make_reader(m, 0, a, REQUEST, OUT); break;
+        case LOOK: answer = Z_iplZ_ipl_port_look(m, e->handle, REQUEST, OUT); break;
+        case READING: answer = Z_iplZ_ipl_port_read(m, e->handle, REQUEST, OUT); break;
         default: answer = Z_iplZ_ipl_port_call(m, e->handle, REQUEST, OUT); break;
         }
         memcpy(&e->request, request, sizeof e->request);
@@ -163,9 +169,15 @@ static uint32_t run(struct ipl_engine *e, enum what what, uint32_t a, uint32_t b
 
 uint32_t ipl_engine_format(struct ipl_engine *e, uint32_t places, uint32_t spares) { return run(e, FORMAT, places, spares); }
 uint32_t ipl_engine_check(struct ipl_engine *e, uint32_t places) { return run(e, CHECK, places, 0); }
+static uint32_t open_reader(struct ipl_engine *e, uint32_t places) {
+    uint32_t answer = run(e, MAKE, places, 0);
+    return answer == IPL_OK ? run(e, LOOK, 0, 0) : answer;
+}
 uint32_t ipl_engine_open(struct ipl_engine *e, enum ipl_engine_kind kind, const struct ipl_config *config) {
     e->request.session = config->sessions;
     e->request.name = config->numbers;
+    e->reads = kind == IPL_ENGINE_READER;
+    if (e->reads) return open_reader(e, config->places);
     return run(e, kind == IPL_ENGINE_KEYS ? KEYS : RECORDS, config->places, config->frames);
 }
-uint32_t ipl_engine_call(struct ipl_engine *e) { return run(e, CALL, 0, 0); }
+uint32_t ipl_engine_call(struct ipl_engine *e) { return run(e, e->reads ? READING : CALL, 0, 0); }

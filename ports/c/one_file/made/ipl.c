@@ -62,7 +62,8 @@ enum ipl_op {
                             * clean log sectors, clean commit sectors, the lower and the upper half of the numbers */
 };
 
-enum ipl_engine_kind { IPL_ENGINE_RECORDS, IPL_ENGINE_KEYS };
+/* A reader does IPL_OP_COMMITTED and IPL_OP_UNITS; each other call it answers by IPL_READ_ONLY. */
+enum ipl_engine_kind { IPL_ENGINE_RECORDS, IPL_ENGINE_KEYS, IPL_ENGINE_READER };
 
 /* Each implementation defines its own; it stands at the start of the memory. */
 struct ipl_engine;
@@ -70,10 +71,12 @@ struct ipl_engine;
 /* The memory of an engine begins at a multiple of so many bytes. */
 enum { IPL_ENGINE_ALIGNMENT = 16 };
 
-/* How many bytes an engine wants, with all that it takes: for an opening and what follows it, for a check,
- * for a format. The config's numbers are in their ranges, those that are looked at: of a check the places alone.
- * A format wants the least; a check has room for 15,300 numbers, whatever the config says. */
+/* How many bytes an engine wants, with all that it takes: for an opening and what follows it, for one of a
+ * reader, for a check, for a format. The config's numbers are in their ranges, those that are looked at: of a
+ * reader the places and the committed numbers, of a check the places alone. A format wants the least; a check
+ * has room for 15,300 numbers, whatever the config says. */
 IPL_ENGINE size_t ipl_engine_memory(const struct ipl_config *config);
+IPL_ENGINE size_t ipl_engine_read_memory(const struct ipl_config *config);
 IPL_ENGINE size_t ipl_engine_check_memory(const struct ipl_config *config);
 IPL_ENGINE size_t ipl_engine_format_memory(void);
 
@@ -175,12 +178,13 @@ enum {
 
 struct ipl_engine {
     ipl_u64 g[1];                    /* the module's globals: where its stack stands */
-    ipl_u64 handle;                  /* of the open store */
+    ipl_u64 handle;                  /* of the open store, or of a part that is only read */
     const struct ipl_driver *driver;
     ipl_place *trap;                 /* where a trap goes */
     ipl_a end;                       /* the memory's size less the slack */
     ipl_u32 heap;                    /* the first address that wasn't handed out */
     ipl_u32 trapped;
+    ipl_u32 reads;                   /* whether the part is only read */
 };
 typedef char ipl_the_head_is_large_enough[sizeof(struct ipl_engine) <= IPL_HEAD ? 1 : -1];
 
@@ -1161,29 +1165,29 @@ static const union { ipl_u8 bytes[24576]; ipl_u64 aligned; } ipl_data = {{
     253,149,91,112,154,81,135,178,114,27,147,46,21,223,79,236,227,136,202,205,132,76,22,15,108,6,2,147,11,194,222,81,
     128,169,8,208,231,109,212,18,15,39,192,142,104,227,28,76,158,180,153,109,249,112,69,175,17,58,81,51,118,254,141,241,
 }};
-static void ipl_to_rattle_alloc(ipl_u8 *const m, ipl_u64 l0, ipl_u64 l1, ipl_u64 l2);
-static void ipl_to_rattle_dealloc(ipl_u8 *const m, ipl_u64 l0);
 static ipl_u32 ipl_to_ipl_nand_read(ipl_u8 *const m, ipl_u64 l0, ipl_u32 l1, ipl_u32 l2, ipl_u64 l3, ipl_u64 l4);
 static void ipl_to_rattle_realloc(ipl_u8 *const m, ipl_u64 l0, ipl_u64 l1, ipl_u64 l2, ipl_u64 l3, ipl_u64 l4);
+static void ipl_to_rattle_alloc(ipl_u8 *const m, ipl_u64 l0, ipl_u64 l1, ipl_u64 l2);
+static void ipl_to_rattle_dealloc(ipl_u8 *const m, ipl_u64 l0);
 static ipl_u32 ipl_to_ipl_nand_barrier(ipl_u8 *const m, ipl_u64 l0);
 static ipl_u32 ipl_to_ipl_nand_program(ipl_u8 *const m, ipl_u64 l0, ipl_u32 l1, ipl_u32 l2, ipl_u64 l3, ipl_u64 l4);
 static ipl_u32 ipl_to_ipl_nand_erase(ipl_u8 *const m, ipl_u64 l0, ipl_u32 l1);
 static void ipl_w7_encode(ipl_u8 *const m, ipl_u64 l0, ipl_u64 l1, ipl_u64 l2, ipl_u64 l3);
 static ipl_u32 ipl_w8_after_part(ipl_u8 *const m, ipl_u32 l0, ipl_u64 l1, ipl_u64 l2);
-static void ipl_w9_new(ipl_u8 *const m, ipl_u64 l0, ipl_u32 l1, ipl_u32 l2);
-static void ipl_w10_filled(ipl_u8 *const m, ipl_u64 l0, ipl_u64 l1, ipl_u64 l2);
-static void ipl_w11_filled(ipl_u8 *const m, ipl_u64 l0, ipl_u64 l1, ipl_u64 l2, ipl_u64 l3);
-static void ipl_w12_new(ipl_u8 *const m, ipl_u64 l0, ipl_u32 l1, ipl_u32 l2);
-static void ipl_w13_new(ipl_u8 *const m, ipl_u64 l0, ipl_u64 l1);
-static void ipl_w14_read_chip(ipl_u8 *const m, ipl_u64 l0, ipl_u64 l1, ipl_u32 l2, ipl_u64 l3, ipl_u64 l4, ipl_u64 l5, ipl_u64 l6, ipl_u32 l7, ipl_u32 l8);
-static void ipl_w15_read_found(ipl_u8 *const m, ipl_u64 l0, ipl_u64 l1, ipl_u32 l2, ipl_u32 l3, ipl_u64 l4);
-static void ipl_w16_add(ipl_u8 *const m, ipl_u64 l0, ipl_u64 l1);
-static void ipl_w17_decode_written(ipl_u8 *const m, ipl_u64 l0, ipl_u64 l1, ipl_u32 l2);
-static void ipl_w18_record_at(ipl_u8 *const m, ipl_u64 l0, ipl_u64 l1, ipl_u64 l2, ipl_u32 l3);
-static void ipl_w19_add(ipl_u8 *const m, ipl_u64 l0, ipl_u32 l1, ipl_u32 l2, ipl_u32 l3, ipl_u32 l4);
-static ipl_u32 ipl_w20_add_payload(ipl_u8 *const m, ipl_u64 l0, ipl_u64 l1, ipl_u64 l2);
-static ipl_u32 ipl_w21_grow_amortized(ipl_u8 *const m, ipl_u64 l0);
-static ipl_u32 ipl_w22_grow_amortized(ipl_u8 *const m, ipl_u64 l0);
+static void ipl_w9_read_chip(ipl_u8 *const m, ipl_u64 l0, ipl_u64 l1, ipl_u32 l2, ipl_u64 l3, ipl_u64 l4, ipl_u64 l5, ipl_u64 l6, ipl_u32 l7, ipl_u32 l8);
+static void ipl_w10_read_found(ipl_u8 *const m, ipl_u64 l0, ipl_u64 l1, ipl_u32 l2, ipl_u32 l3, ipl_u64 l4);
+static void ipl_w11_add(ipl_u8 *const m, ipl_u64 l0, ipl_u64 l1);
+static void ipl_w12_decode_written(ipl_u8 *const m, ipl_u64 l0, ipl_u64 l1, ipl_u32 l2);
+static void ipl_w13_record_at(ipl_u8 *const m, ipl_u64 l0, ipl_u64 l1, ipl_u64 l2, ipl_u32 l3);
+static void ipl_w14_add(ipl_u8 *const m, ipl_u64 l0, ipl_u32 l1, ipl_u32 l2, ipl_u32 l3, ipl_u32 l4);
+static ipl_u32 ipl_w15_add_payload(ipl_u8 *const m, ipl_u64 l0, ipl_u64 l1, ipl_u64 l2);
+static ipl_u32 ipl_w16_grow_amortized(ipl_u8 *const m, ipl_u64 l0);
+static ipl_u32 ipl_w17_grow_amortized(ipl_u8 *const m, ipl_u64 l0);
+static void ipl_w18_new(ipl_u8 *const m, ipl_u64 l0, ipl_u32 l1, ipl_u32 l2);
+static void ipl_w19_filled(ipl_u8 *const m, ipl_u64 l0, ipl_u64 l1, ipl_u64 l2);
+static void ipl_w20_filled(ipl_u8 *const m, ipl_u64 l0, ipl_u64 l1, ipl_u64 l2, ipl_u64 l3);
+static void ipl_w21_new(ipl_u8 *const m, ipl_u64 l0, ipl_u32 l1, ipl_u32 l2);
+static void ipl_w22_new(ipl_u8 *const m, ipl_u64 l0, ipl_u64 l1);
 static void ipl_w23_read_live(ipl_u8 *const m, ipl_u64 l0, ipl_u64 l1, ipl_u64 l2, ipl_u64 l3, ipl_u32 l4, ipl_u64 l5);
 static void ipl_w24_read_spot(ipl_u8 *const m, ipl_u64 l0, ipl_u64 l1, ipl_u32 l2, ipl_u64 l3, ipl_u32 l4, ipl_u32 l5, ipl_u64 l6);
 static ipl_u32 ipl_w25_grow_amortized(ipl_u8 *const m, ipl_u64 l0);
@@ -1208,34 +1212,38 @@ static ipl_u32 ipl_w43_pack_carried(ipl_u8 *const m, ipl_u64 l0, ipl_u64 l1, ipl
 static ipl_u32 ipl_w44_groups_equal(ipl_u8 *const m, ipl_u64 l0, ipl_u64 l1, ipl_u64 l2);
 static ipl_u32 ipl_w45_put(ipl_u8 *const m, ipl_u64 l0, ipl_u64 l1);
 static void ipl_w46_take_next(ipl_u8 *const m, ipl_u64 l0, ipl_u64 l1, ipl_u64 l2);
-static void ipl_w47_get(ipl_u8 *const m, ipl_u64 l0, ipl_u64 l1, ipl_u64 l2, ipl_u32 l3, ipl_u32 l4);
-static void ipl_w48_bring(ipl_u8 *const m, ipl_u64 l0, ipl_u64 l1, ipl_u64 l2, ipl_u32 l3, ipl_u32 l4);
-static void ipl_w49_seen(ipl_u8 *const m, ipl_u64 l0, ipl_u64 l1, ipl_u32 l2, ipl_u32 l3);
-static void ipl_w50_fetch(ipl_u8 *const m, ipl_u64 l0, ipl_u64 l1, ipl_u64 l2, ipl_u32 l3, ipl_u32 l4);
-static void ipl_w51_write_out(ipl_u8 *const m, ipl_u64 l0, ipl_u64 l1, ipl_u64 l2, ipl_u32 l3, ipl_u32 l4);
-static void ipl_w52_rotate_left(ipl_u8 *const m, ipl_u64 l0, ipl_u64 l1, ipl_u64 l2);
-static void ipl_w53_remove(ipl_u8 *const m, ipl_u64 l0, ipl_u64 l1);
-static void ipl_w54_swap_with_slice(ipl_u8 *const m, ipl_u64 l0, ipl_u64 l1, ipl_u64 l2);
-static void ipl_w55_turn_through_room(ipl_u8 *const m, ipl_u64 l0, ipl_u64 l1, ipl_u64 l2, ipl_u64 l3);
-static void ipl_w56_mirror(ipl_u8 *const m, ipl_u64 l0, ipl_u64 l1, ipl_u64 l2, ipl_u64 l3);
-static void ipl_w57_share(ipl_u8 *const m, ipl_u64 l0, ipl_u64 l1, ipl_u64 l2, ipl_u32 l3, ipl_u32 l4);
-static void ipl_w58_reserves(ipl_u8 *const m, ipl_u64 l0, ipl_u64 l1);
-static ipl_u32 ipl_w59_is_retired(ipl_u8 *const m, ipl_u64 l0, ipl_u32 l1);
-static void ipl_w60_merge(ipl_u8 *const m, ipl_u64 l0, ipl_u64 l1, ipl_u64 l2, ipl_u32 l3);
-static void ipl_w61_close(ipl_u8 *const m, ipl_u64 l0, ipl_u64 l1, ipl_u64 l2);
-static void ipl_w62_put(ipl_u8 *const m, ipl_u64 l0, ipl_u64 l1, ipl_u64 l2, ipl_u32 l3, ipl_u32 l4, ipl_u64 l5, ipl_u64 l6);
-static void ipl_w63_refuses_write(ipl_u8 *const m, ipl_u64 l0, ipl_u64 l1, ipl_u64 l2, ipl_u32 l3, ipl_u32 l4, ipl_u32 l5);
-static void ipl_w64_write(ipl_u8 *const m, ipl_u64 l0, ipl_u64 l1, ipl_u64 l2, ipl_u32 l3, ipl_u32 l4, ipl_u64 l5);
-static void ipl_w65_del(ipl_u8 *const m, ipl_u64 l0, ipl_u64 l1, ipl_u64 l2, ipl_u32 l3, ipl_u32 l4);
-static void ipl_w66_commit(ipl_u8 *const m, ipl_u64 l0, ipl_u64 l1, ipl_u64 l2, ipl_u64 l3, ipl_u64 l4, ipl_u64 l5);
-static void ipl_w67_end_all(ipl_u8 *const m, ipl_u64 l0, ipl_u64 l1, ipl_u64 l2);
-static void ipl_w68_commit_all(ipl_u8 *const m, ipl_u64 l0, ipl_u64 l1, ipl_u64 l2, ipl_u64 l3, ipl_u64 l4);
-static void ipl_w69_abort(ipl_u8 *const m, ipl_u64 l0, ipl_u64 l1, ipl_u32 l2);
-static void ipl_w70_look(ipl_u8 *const m, ipl_u64 l0, ipl_u64 l1, ipl_u64 l2, ipl_u32 l3, ipl_u32 l4, ipl_u64 l5);
+static void ipl_w47_load(ipl_u8 *const m, ipl_u64 l0, ipl_u64 l1, ipl_u64 l2, ipl_u64 l3, ipl_u64 l4, ipl_u64 l5, ipl_u64 l6, ipl_u32 l7, ipl_u32 l8, ipl_u64 l9, ipl_u64 l10);
+static void ipl_w48_get(ipl_u8 *const m, ipl_u64 l0, ipl_u64 l1, ipl_u64 l2, ipl_u32 l3, ipl_u32 l4);
+static void ipl_w49_bring(ipl_u8 *const m, ipl_u64 l0, ipl_u64 l1, ipl_u64 l2, ipl_u32 l3, ipl_u32 l4);
+static void ipl_w50_seen(ipl_u8 *const m, ipl_u64 l0, ipl_u64 l1, ipl_u32 l2, ipl_u32 l3);
+static void ipl_w51_fetch(ipl_u8 *const m, ipl_u64 l0, ipl_u64 l1, ipl_u64 l2, ipl_u32 l3, ipl_u32 l4);
+static void ipl_w52_write_out(ipl_u8 *const m, ipl_u64 l0, ipl_u64 l1, ipl_u64 l2, ipl_u32 l3, ipl_u32 l4);
+static void ipl_w53_rotate_left(ipl_u8 *const m, ipl_u64 l0, ipl_u64 l1, ipl_u64 l2);
+static void ipl_w54_remove(ipl_u8 *const m, ipl_u64 l0, ipl_u64 l1);
+static void ipl_w55_swap_with_slice(ipl_u8 *const m, ipl_u64 l0, ipl_u64 l1, ipl_u64 l2);
+static void ipl_w56_turn_through_room(ipl_u8 *const m, ipl_u64 l0, ipl_u64 l1, ipl_u64 l2, ipl_u64 l3);
+static void ipl_w57_mirror(ipl_u8 *const m, ipl_u64 l0, ipl_u64 l1, ipl_u64 l2, ipl_u64 l3);
+static void ipl_w58_share(ipl_u8 *const m, ipl_u64 l0, ipl_u64 l1, ipl_u64 l2, ipl_u32 l3, ipl_u32 l4);
+static void ipl_w59_reserves(ipl_u8 *const m, ipl_u64 l0, ipl_u64 l1);
+static ipl_u32 ipl_w60_is_retired(ipl_u8 *const m, ipl_u64 l0, ipl_u32 l1);
+static void ipl_w61_merge(ipl_u8 *const m, ipl_u64 l0, ipl_u64 l1, ipl_u64 l2, ipl_u32 l3);
+static void ipl_w62_close(ipl_u8 *const m, ipl_u64 l0, ipl_u64 l1, ipl_u64 l2);
+static void ipl_w63_put(ipl_u8 *const m, ipl_u64 l0, ipl_u64 l1, ipl_u64 l2, ipl_u32 l3, ipl_u32 l4, ipl_u64 l5, ipl_u64 l6);
+static void ipl_w64_refuses_write(ipl_u8 *const m, ipl_u64 l0, ipl_u64 l1, ipl_u64 l2, ipl_u32 l3, ipl_u32 l4, ipl_u32 l5);
+static void ipl_w65_write(ipl_u8 *const m, ipl_u64 l0, ipl_u64 l1, ipl_u64 l2, ipl_u32 l3, ipl_u32 l4, ipl_u64 l5);
+static void ipl_w66_del(ipl_u8 *const m, ipl_u64 l0, ipl_u64 l1, ipl_u64 l2, ipl_u32 l3, ipl_u32 l4);
+static void ipl_w67_commit(ipl_u8 *const m, ipl_u64 l0, ipl_u64 l1, ipl_u64 l2, ipl_u64 l3, ipl_u64 l4, ipl_u64 l5);
+static void ipl_w68_end_all(ipl_u8 *const m, ipl_u64 l0, ipl_u64 l1, ipl_u64 l2);
+static void ipl_w69_commit_all(ipl_u8 *const m, ipl_u64 l0, ipl_u64 l1, ipl_u64 l2, ipl_u64 l3, ipl_u64 l4);
+static void ipl_w70_abort(ipl_u8 *const m, ipl_u64 l0, ipl_u64 l1, ipl_u32 l2);
+static void ipl_w71_look(ipl_u8 *const m, ipl_u64 l0, ipl_u64 l1, ipl_u64 l2, ipl_u32 l3, ipl_u32 l4, ipl_u64 l5);
 static ipl_u32 ipl_w_ipl_port_format(ipl_u8 *const m, ipl_u64 l0, ipl_u32 l1, ipl_u32 l2, ipl_u64 l3);
+static ipl_u32 ipl_w_ipl_port_look(ipl_u8 *const m, ipl_u64 l0, ipl_u64 l1, ipl_u64 l2);
 static ipl_u32 ipl_w_ipl_port_check(ipl_u8 *const m, ipl_u64 l0, ipl_u32 l1, ipl_u64 l2);
 static ipl_u32 ipl_w_ipl_port_open_keys(ipl_u8 *const m, ipl_u64 l0, ipl_u32 l1, ipl_u32 l2, ipl_u64 l3, ipl_u64 l4);
 static ipl_u32 ipl_w_ipl_port_open_records(ipl_u8 *const m, ipl_u64 l0, ipl_u32 l1, ipl_u32 l2, ipl_u64 l3, ipl_u64 l4);
+static ipl_u32 ipl_w_ipl_port_read(ipl_u8 *const m, ipl_u64 l0, ipl_u64 l1, ipl_u64 l2);
+static ipl_u32 ipl_w_ipl_port_make_reader(ipl_u8 *const m, ipl_u64 l0, ipl_u32 l1, ipl_u64 l2, ipl_u64 l3);
 static ipl_u32 ipl_w_ipl_port_call(ipl_u8 *const m, ipl_u64 l0, ipl_u64 l1, ipl_u64 l2);
 
 /* sector_format::encoding::encode */
@@ -1355,449 +1363,8 @@ L5:;
     return l0;
 }
 
-/* unit_directory::directory::Directory::new */
-static void ipl_w9_new(ipl_u8 *const m, ipl_u64 l0, ipl_u32 l1, ipl_u32 l2) {
-    ipl_u32 l6 = 0;
-    ipl_u64 l3 = 0, l4 = 0, l5 = 0, l7 = 0, l8 = 0, l9 = 0, l10 = 0, l11 = 0, l12 = 0, l13 = 0, l14 = 0, l15 = 0, t1;
-    IPL_ENDS
-    t1 = IPL_G(0);
-    l3 = (t1 - 192u);
-    IPL_G(0) = l3;
-    IPL_S64(l3, 176u, (ipl_u64)0u);
-    IPL_S64(l3, 168u, (ipl_u64)0u);
-    IPL_S64(l3, 160u, (ipl_u64)0u);
-    IPL_S64(l3, 152u, (ipl_u64)0u);
-    IPL_S64(l3, 144u, (ipl_u64)0u);
-    IPL_S64(l3, 104u, (ipl_u64)0u);
-    IPL_S64(l3, 112u, (ipl_u64)0u);
-    IPL_S64(l3, 120u, (ipl_u64)0u);
-    IPL_S64(l3, 128u, (ipl_u64)0u);
-    IPL_S64(l3, 136u, (ipl_u64)0u);
-    IPL_S64(l3, 72u, (ipl_u64)0u);
-    IPL_S64(l3, 80u, (ipl_u64)0u);
-    IPL_S64(l3, 88u, (ipl_u64)0u);
-    IPL_S64U(l3, 94u, (ipl_u64)0u);
-    l4 = (ipl_u64)l1;
-    l5 = (l4 - 4u);
-    l6 = (ipl_u32)(l5 == 0);
-    if (l6 == 0) goto L11;
-    l7 = (l3 + 188u);
-    goto L10;
-L11:;
-    if (l1 < 4u) goto L9;
-    ipl_to_rattle_alloc(m, (l3 + 56u), (l5 << 2), (ipl_u64)4u);
-    if (((ipl_u32)IPL_L64(l3, 56u) & 1u) == 0) goto L9;
-    l7 = IPL_L64(l3, 64u);
-L10:;
-    l8 = (ipl_u64)l2;
-    if (l2 == 0) goto L12;
-    l9 = (l8 << 2);
-    if (l9 == 0) goto L12;
-    IPL_FILL(l7, 0u, l9);
-L12:;
-    ipl_to_rattle_alloc(m, (l3 + 40u), l4, (ipl_u64)1u);
-    if (((ipl_u32)IPL_L64(l3, 40u) & 1u) == 0) goto L8;
-    l10 = IPL_L64(l3, 48u);
-    if (l4 == 0) goto L13;
-    IPL_FILL(l10, 0u, l4);
-L13:;
-    ipl_to_rattle_alloc(m, (l3 + 24u), (l4 << 2), (ipl_u64)4u);
-    if (((ipl_u32)IPL_L64(l3, 24u) & 1u) == 0) goto L5;
-    l11 = IPL_L64(l3, 32u);
-    l9 = l11;
-    l12 = l4;
-L14:;
-    IPL_S32(l9, 0u, 1u);
-    l9 = (l9 + 4u);
-    l12 = (l12 - 1u);
-    if (!(l12 == 0)) goto L14;
-    if (l6 == 0) goto L7;
-    l13 = (l3 + 188u);
-    goto L6;
-L9:;
-    IPL_S8(l0, 0u, 1u);
-    IPL_FILL((l0 + 8u), 0u, (ipl_u64)456u);
-    goto L1;
-L8:;
-    if (l6 != 0) goto L15;
-    ipl_to_rattle_dealloc(m, l7);
-L15:;
-    IPL_S8(l0, 0u, 1u);
-    IPL_FILL((l0 + 8u), 0u, (ipl_u64)456u);
-    goto L1;
-L7:;
-    ipl_to_rattle_alloc(m, (l3 + 8u), (l5 << 2), (ipl_u64)4u);
-    if (((ipl_u32)IPL_L64(l3, 8u) & 1u) == 0) goto L4;
-    l13 = IPL_L64(l3, 16u);
-L6:;
-    if (l2 == 0) goto L16;
-    l9 = l13;
-    l12 = l8;
-L17:;
-    IPL_S32(l9, 0u, 32u);
-    l9 = (l9 + 4u);
-    l12 = (l12 - 1u);
-    if (!(l12 == 0)) goto L17;
-L16:;
-    ipl_w10_filled(m, (l3 + 144u), l5, l8);
-    if (IPL_L8(l3, 144u) != 0) goto L3;
-    IPL_S64(l3, 72u, (ipl_u64)0u);
-    IPL_S64(l3, 80u, (ipl_u64)0u);
-    IPL_S64(l3, 88u, (ipl_u64)0u);
-    IPL_S64U(l3, 94u, (ipl_u64)0u);
-    l14 = IPL_L64(l3, 176u);
-    l9 = IPL_L64(l3, 168u);
-    l15 = IPL_L64(l3, 160u);
-    l12 = IPL_L64(l3, 152u);
-    ipl_w11_filled(m, (l3 + 104u), l5, l8, (l3 + 72u));
-    if (IPL_L8(l3, 104u) != 0) goto L2;
-    IPL_S8(l0, 0u, 0u);
-    IPL_S64U(l0, 96u, l4);
-    IPL_S64U(l0, 88u, l4);
-    IPL_S64U(l0, 80u, l4);
-    IPL_S64U(l0, 72u, l11);
-    IPL_S64U(l0, 64u, l4);
-    IPL_S64U(l0, 56u, l4);
-    IPL_S64U(l0, 48u, l4);
-    IPL_S64U(l0, 40u, l10);
-    IPL_S64U(l0, 32u, l5);
-    IPL_S64U(l0, 24u, l5);
-    IPL_S64U(l0, 16u, l8);
-    IPL_S64U(l0, 8u, l7);
-    IPL_FILL((l0 + 104u), 0u, (ipl_u64)264u);
-    IPL_S64U((l0 + 424u), 0u, l14);
-    IPL_S64U((l0 + 416u), 0u, l9);
-    IPL_S64U((l0 + 408u), 0u, l15);
-    IPL_S64U((l0 + 400u), 0u, l12);
-    IPL_S64U((l0 + 392u), 0u, l5);
-    IPL_S64U((l0 + 384u), 0u, l5);
-    IPL_S64U((l0 + 376u), 0u, l8);
-    IPL_S64U((l0 + 368u), 0u, l13);
-    IPL_S64U((l0 + 432u), 0u, IPL_L64(l3, 112u));
-    IPL_S64U((l0 + 440u), 0u, IPL_L64(l3, 120u));
-    IPL_S64U((l0 + 448u), 0u, IPL_L64(l3, 128u));
-    IPL_S64U((l0 + 456u), 0u, IPL_L64(l3, 136u));
-    goto L1;
-L5:;
-    ipl_to_rattle_dealloc(m, l10);
-    if (l6 != 0) goto L18;
-    ipl_to_rattle_dealloc(m, l7);
-L18:;
-    IPL_S8(l0, 0u, 1u);
-    IPL_FILL((l0 + 8u), 0u, (ipl_u64)456u);
-    goto L1;
-L4:;
-    ipl_to_rattle_dealloc(m, l11);
-    ipl_to_rattle_dealloc(m, l10);
-    ipl_to_rattle_dealloc(m, l7);
-    IPL_S8(l0, 0u, 1u);
-    IPL_FILL((l0 + 8u), 0u, (ipl_u64)456u);
-    goto L1;
-L3:;
-    if (l6 != 0) goto L19;
-    ipl_to_rattle_dealloc(m, l13);
-    ipl_to_rattle_dealloc(m, l11);
-    l11 = l10;
-    l10 = l7;
-L19:;
-    ipl_to_rattle_dealloc(m, l11);
-    ipl_to_rattle_dealloc(m, l10);
-    IPL_S8(l0, 0u, 1u);
-    IPL_FILL((l0 + 8u), 0u, (ipl_u64)456u);
-    goto L1;
-L2:;
-    if (l9 == 0) goto L20;
-    ipl_to_rattle_dealloc(m, l12);
-L20:;
-    if (l6 != 0) goto L21;
-    ipl_to_rattle_dealloc(m, l13);
-    ipl_to_rattle_dealloc(m, l11);
-    l11 = l10;
-    l10 = l7;
-L21:;
-    ipl_to_rattle_dealloc(m, l11);
-    ipl_to_rattle_dealloc(m, l10);
-    IPL_S8(l0, 0u, 1u);
-    IPL_FILL((l0 + 8u), 0u, (ipl_u64)456u);
-L1:;
-    IPL_G(0) = (l3 + 192u);
-}
-
-/* bounded_vec::bounded_vec::BoundedVec::filled::<i64,21'core::clone::U64Clone{}> */
-static void ipl_w10_filled(ipl_u8 *const m, ipl_u64 l0, ipl_u64 l1, ipl_u64 l2) {
-    ipl_u64 l3 = 0, l4 = 0, l5 = 0, t1;
-    IPL_ENDS
-    t1 = IPL_G(0);
-    l3 = (t1 - 32u);
-    IPL_G(0) = l3;
-    if (!(l1 == 0)) goto L4;
-    l4 = (l3 + 24u);
-    goto L3;
-L4:;
-    if (l1 > 1152921504606846975ull) goto L2;
-    ipl_to_rattle_alloc(m, (l3 + 8u), (l1 << 3), (ipl_u64)8u);
-    if (((ipl_u32)IPL_L64(l3, 8u) & 1u) == 0) goto L2;
-    l4 = IPL_L64(l3, 16u);
-L3:;
-    if (l2 == 0) goto L5;
-    l5 = (l2 << 3);
-    if (l5 == 0) goto L5;
-    IPL_FILL(l4, 0u, l5);
-L5:;
-    IPL_S8(l0, 0u, 0u);
-    IPL_S64U(l0, 32u, l1);
-    IPL_S64U(l0, 24u, l1);
-    IPL_S64U(l0, 16u, l2);
-    IPL_S64U(l0, 8u, l4);
-    goto L1;
-L2:;
-    IPL_S8(l0, 0u, 1u);
-    IPL_S64U(l0, 8u, (ipl_u64)0u);
-    IPL_S64U(l0, 16u, (ipl_u64)0u);
-    IPL_S64U(l0, 24u, (ipl_u64)0u);
-    IPL_S64U(l0, 32u, (ipl_u64)0u);
-L1:;
-    IPL_G(0) = (l3 + 32u);
-}
-
-/* bounded_vec::bounded_vec::BoundedVec::filled::<#f86fe6bdae9e3602> */
-static void ipl_w11_filled(ipl_u8 *const m, ipl_u64 l0, ipl_u64 l1, ipl_u64 l2, ipl_u64 l3) {
-    ipl_u64 l4 = 0, l5 = 0, l6 = 0, t1;
-    IPL_ENDS
-    t1 = IPL_G(0);
-    l4 = (t1 - 48u);
-    IPL_G(0) = l4;
-    IPL_S64U(l4, 38u, IPL_L64U(l3, 22u));
-    IPL_S64(l4, 32u, IPL_L64U(l3, 16u));
-    IPL_S64(l4, 24u, IPL_L64U(l3, 8u));
-    IPL_S64(l4, 16u, IPL_L64U(l3, 0u));
-    if (!(l1 == 0)) goto L4;
-    l5 = (l4 + 46u);
-    goto L3;
-L4:;
-    if ((ipl_s64)l1 < (ipl_s64)(ipl_u64)0u) goto L2;
-    ipl_to_rattle_alloc(m, l4, (l1 * 30u), (ipl_u64)2u);
-    if (((ipl_u32)IPL_L64(l4, 0u) & 1u) == 0) goto L2;
-    l5 = IPL_L64(l4, 8u);
-L3:;
-    if (l2 == 0) goto L5;
-    l3 = l5;
-    l6 = l2;
-L6:;
-    IPL_S64U(l3, 22u, IPL_L64U(l4, 38u));
-    IPL_S64U(l3, 16u, IPL_L64(l4, 32u));
-    IPL_S64U(l3, 8u, IPL_L64(l4, 24u));
-    IPL_S64U(l3, 0u, IPL_L64(l4, 16u));
-    l3 = (l3 + 30u);
-    l6 = (l6 - 1u);
-    if (l6 != 0u) goto L6;
-L5:;
-    IPL_S8(l0, 0u, 0u);
-    IPL_S64U(l0, 32u, l1);
-    IPL_S64U(l0, 24u, l1);
-    IPL_S64U(l0, 16u, l2);
-    IPL_S64U(l0, 8u, l5);
-    goto L1;
-L2:;
-    IPL_S8(l0, 0u, 1u);
-    IPL_S64U(l0, 8u, (ipl_u64)0u);
-    IPL_S64U(l0, 16u, (ipl_u64)0u);
-    IPL_S64U(l0, 24u, (ipl_u64)0u);
-    IPL_S64U(l0, 32u, (ipl_u64)0u);
-L1:;
-    IPL_G(0) = (l4 + 48u);
-}
-
-/* restart::recovery::Scratch::new */
-static void ipl_w12_new(ipl_u8 *const m, ipl_u64 l0, ipl_u32 l1, ipl_u32 l2) {
-    ipl_u32 l9 = 0;
-    ipl_u64 l3 = 0, l4 = 0, l5 = 0, l6 = 0, l7 = 0, l8 = 0, l10 = 0, l11 = 0, l12 = 0, l13 = 0, t1;
-    IPL_ENDS
-    t1 = IPL_G(0);
-    l3 = (t1 - 128u);
-    IPL_G(0) = l3;
-    if (l1 == 0) goto L7;
-    l4 = (ipl_u64)l1;
-    l5 = (l4 * 40u);
-    ipl_to_rattle_alloc(m, (l3 + 104u), l5, (ipl_u64)8u);
-    if (((ipl_u32)IPL_L64(l3, 104u) & 1u) == 0) goto L11;
-    l6 = IPL_L64(l3, 112u);
-    l7 = (ipl_u64)0u;
-L12:;
-    l8 = (l6 + l7);
-    IPL_S64U(l8, 32u, (ipl_u64)0u);
-    IPL_S64U(l8, 24u, (ipl_u64)0u);
-    IPL_S64U(l8, 16u, (ipl_u64)0u);
-    IPL_S64U(l8, 8u, (ipl_u64)0u);
-    IPL_S64U(l8, 0u, (ipl_u64)0u);
-    l7 = (l7 + 40u);
-    if (l5 != l7) goto L12;
-    l5 = (l4 - 4u);
-    l9 = (ipl_u32)(l5 == 0);
-    if (l9 != 0) goto L10;
-    if (l5 > 192153584101141162ull) goto L8;
-    ipl_to_rattle_alloc(m, (l3 + 88u), (l5 * 48u), (ipl_u64)8u);
-    if (((ipl_u32)IPL_L64(l3, 88u) & 1u) == 0) goto L8;
-    l10 = IPL_L64(l3, 96u);
-    l8 = l10;
-    l7 = l5;
-L13:;
-    IPL_S64U(l8, 40u, (ipl_u64)0u);
-    IPL_S64U(l8, 32u, (ipl_u64)0u);
-    IPL_S64U(l8, 24u, (ipl_u64)0u);
-    IPL_S64U(l8, 16u, (ipl_u64)0u);
-    IPL_S64U(l8, 8u, (ipl_u64)0u);
-    IPL_S64U(l8, 0u, (ipl_u64)0u);
-    l8 = (l8 + 48u);
-    l7 = (l7 - 1u);
-    if (!(l7 == 0)) goto L13;
-    l8 = (l5 * 248u);
-    ipl_to_rattle_alloc(m, (l3 + 72u), l8, (ipl_u64)8u);
-    if (((ipl_u32)IPL_L64(l3, 72u) & 1u) == 0) goto L3;
-    l11 = IPL_L64(l3, 80u);
-    if (l8 == 0) goto L14;
-    IPL_FILL(l11, 0u, l8);
-L14:;
-    if (l1 < 4u) goto L4;
-    ipl_to_rattle_alloc(m, (l3 + 56u), l5, (ipl_u64)1u);
-    if (((ipl_u32)IPL_L64(l3, 56u) & 1u) == 0) goto L4;
-    l12 = IPL_L64(l3, 64u);
-    if (l9 != 0) goto L15;
-    IPL_FILL(l12, 0u, l5);
-L15:;
-    ipl_to_rattle_alloc(m, (l3 + 40u), l5, (ipl_u64)1u);
-    if (((ipl_u32)IPL_L64(l3, 40u) & 1u) == 0) goto L5;
-    l8 = IPL_L64(l3, 48u);
-    if (l9 != 0) goto L16;
-    IPL_FILL(l8, 0u, l5);
-L16:;
-    ipl_to_rattle_alloc(m, (l3 + 24u), l4, (ipl_u64)1u);
-    if (((ipl_u32)IPL_L64(l3, 24u) & 1u) == 0) goto L6;
-    l7 = (l5 * 31u);
-    l13 = IPL_L64(l3, 32u);
-    goto L9;
-L11:;
-    IPL_S8(l0, 0u, 1u);
-    IPL_FILL((l0 + 8u), 0u, (ipl_u64)208u);
-    goto L1;
-L10:;
-    ipl_to_rattle_alloc(m, (l3 + 8u), l4, (ipl_u64)1u);
-    if (((ipl_u32)IPL_L64(l3, 8u) & 1u) == 0) goto L2;
-    l13 = IPL_L64(l3, 16u);
-    l7 = (ipl_u64)0u;
-    l8 = (l3 + 120u);
-    l12 = l8;
-    l11 = l8;
-    l10 = l8;
-L9:;
-    if (l4 == 0) goto L17;
-    IPL_FILL(l13, 0u, l4);
-L17:;
-    IPL_S64U(l0, 208u, (ipl_u64)0u);
-    IPL_S64U(l0, 200u, l4);
-    IPL_S64U(l0, 192u, l4);
-    IPL_S64U(l0, 184u, l4);
-    IPL_S64U(l0, 176u, l13);
-    IPL_S64U(l0, 168u, l5);
-    IPL_S64U(l0, 160u, l5);
-    IPL_S64U(l0, 152u, l5);
-    IPL_S64U(l0, 144u, l8);
-    IPL_S64U(l0, 136u, l5);
-    IPL_S64U(l0, 128u, l5);
-    IPL_S64U(l0, 120u, l5);
-    IPL_S64U(l0, 112u, l12);
-    IPL_S64U(l0, 104u, l7);
-    IPL_S64U(l0, 96u, l7);
-    IPL_S64U(l0, 88u, l7);
-    IPL_S64U(l0, 80u, l11);
-    IPL_S64U(l0, 72u, l5);
-    IPL_S64U(l0, 64u, l5);
-    IPL_S64U(l0, 56u, l5);
-    IPL_S64U(l0, 48u, l10);
-    IPL_S64U(l0, 40u, l4);
-    IPL_S64U(l0, 32u, l4);
-    IPL_S64U(l0, 24u, l4);
-    IPL_S64U(l0, 16u, l6);
-    IPL_S32U(l0, 12u, l2);
-    IPL_S32U(l0, 8u, l1);
-    IPL_S8(l0, 0u, 0u);
-    goto L1;
-L8:;
-    ipl_to_rattle_dealloc(m, l6);
-L7:;
-    IPL_S8(l0, 0u, 1u);
-    IPL_FILL((l0 + 8u), 0u, (ipl_u64)208u);
-    goto L1;
-L6:;
-    ipl_to_rattle_dealloc(m, l8);
-L5:;
-    ipl_to_rattle_dealloc(m, l12);
-L4:;
-    ipl_to_rattle_dealloc(m, l11);
-L3:;
-    ipl_to_rattle_dealloc(m, l10);
-L2:;
-    ipl_to_rattle_dealloc(m, l6);
-    IPL_S8(l0, 0u, 1u);
-    IPL_FILL((l0 + 8u), 0u, (ipl_u64)208u);
-L1:;
-    IPL_G(0) = (l3 + 128u);
-}
-
-/* restart::numbers::KeptNumbers::new */
-static void ipl_w13_new(ipl_u8 *const m, ipl_u64 l0, ipl_u64 l1) {
-    ipl_u32 l5 = 0;
-    ipl_u64 l2 = 0, l3 = 0, l4 = 0, l6 = 0, l7 = 0, t1;
-    IPL_ENDS
-    t1 = IPL_G(0);
-    l2 = (t1 - 32u);
-    IPL_G(0) = l2;
-    l3 = ((l1 + 7u) >> 3);
-    ipl_to_rattle_alloc(m, (l2 + 16u), l3, (ipl_u64)1u);
-    if (((ipl_u32)IPL_L64(l2, 16u) & 1u) == 0) goto L3;
-    l4 = IPL_L64(l2, 24u);
-    l5 = (ipl_u32)(l3 == 0);
-    if (l5 != 0) goto L4;
-    IPL_FILL(l4, 0u, l3);
-L4:;
-    ipl_to_rattle_alloc(m, l2, l3, (ipl_u64)1u);
-    if (((ipl_u32)IPL_L64(l2, 0u) & 1u) == 0) goto L2;
-    l6 = (l1 - 60u);
-    l6 = (l6 < 3840u ? l6 : (ipl_u64)3840u);
-    l7 = IPL_L64(l2, 8u);
-    if (l5 != 0) goto L5;
-    IPL_FILL(l7, 0u, l3);
-L5:;
-    IPL_S64U(l0, 112u, l1);
-    IPL_S64U(l0, 104u, l6);
-    IPL_S64U(l0, 96u, (ipl_u64)0u);
-    IPL_S64U(l0, 88u, l3);
-    IPL_S64U(l0, 80u, l3);
-    IPL_S64U(l0, 72u, l3);
-    IPL_S64U(l0, 64u, l7);
-    IPL_S64U(l0, 56u, l1);
-    IPL_S64U(l0, 48u, l6);
-    IPL_S64U(l0, 40u, (ipl_u64)0u);
-    IPL_S64U(l0, 32u, l3);
-    IPL_S64U(l0, 24u, l3);
-    IPL_S64U(l0, 16u, l3);
-    IPL_S64U(l0, 8u, l4);
-    IPL_S8(l0, 0u, 0u);
-    goto L1;
-L3:;
-    IPL_S8(l0, 0u, 1u);
-    IPL_FILL((l0 + 8u), 0u, (ipl_u64)112u);
-    goto L1;
-L2:;
-    ipl_to_rattle_dealloc(m, l4);
-    IPL_S8(l0, 0u, 1u);
-    IPL_FILL((l0 + 8u), 0u, (ipl_u64)112u);
-L1:;
-    IPL_G(0) = (l2 + 32u);
-}
-
 /* restart::recovery::read_chip::<#81e02dbab8cd6729> */
-static void ipl_w14_read_chip(ipl_u8 *const m, ipl_u64 l0, ipl_u64 l1, ipl_u32 l2, ipl_u64 l3, ipl_u64 l4, ipl_u64 l5, ipl_u64 l6, ipl_u32 l7, ipl_u32 l8) {
+static void ipl_w9_read_chip(ipl_u8 *const m, ipl_u64 l0, ipl_u64 l1, ipl_u32 l2, ipl_u64 l3, ipl_u64 l4, ipl_u64 l5, ipl_u64 l6, ipl_u32 l7, ipl_u32 l8) {
     ipl_u32 l23 = 0, l24 = 0, l25 = 0, l28 = 0, l29 = 0, l30 = 0, l31 = 0, l32 = 0, l33 = 0, l34 = 0, l37 = 0, l38 = 0, l39 = 0, l42 = 0, l43 = 0, l44 = 0;
     ipl_u32 l46 = 0, l47 = 0, t4, t5, t6, t7, t8, t9, t10, t11, t12, t13, t14;
     ipl_u64 l9 = 0, l10 = 0, l11 = 0, l12 = 0, l13 = 0, l14 = 0, l15 = 0, l16 = 0, l17 = 0, l18 = 0, l19 = 0, l20 = 0, l21 = 0, l22 = 0, l26 = 0, l27 = 0;
@@ -1839,7 +1406,7 @@ L8:;
     IPL_S64(l9, 2600u, (ipl_u64)0u);
     IPL_S64(l9, 2592u, (ipl_u64)0u);
     l31 = (ipl_u32)l26;
-    ipl_w15_read_found(m, (l9 + 2592u), l1, l31, 0u, (l9 + 1584u));
+    ipl_w10_read_found(m, (l9 + 2592u), l1, l31, 0u, (l9 + 1584u));
     l32 = IPL_L32(l9, 2612u);
     l33 = IPL_L32(l9, 2608u);
     l34 = IPL_L32(l9, 2600u);
@@ -2362,7 +1929,7 @@ L78:;
     IPL_S64(l9, 1600u, (ipl_u64)0u);
     IPL_S64(l9, 1592u, (ipl_u64)0u);
     IPL_S64(l9, 1584u, (ipl_u64)0u);
-    ipl_w15_read_found(m, (l9 + 1584u), l1, l28, l38, (l9 + 560u));
+    ipl_w10_read_found(m, (l9 + 1584u), l1, l28, l38, (l9 + 560u));
     l37 = IPL_L32(l9, 1592u);
     if (IPL_L8(l9, 1584u) != 0) goto L82;
     if ((l37 & 255u) != 2u) goto L83;
@@ -2404,7 +1971,7 @@ L87:;
     if (IPL_L64((l45 + l41), 0u) == l40) goto L85;
 L86:;
     if (l19 == IPL_L64(l14, 40u)) goto L81;
-    ipl_w16_add(m, l21, l40);
+    ipl_w11_add(m, l21, l40);
 L85:;
     l13 = (l13 + 1u);
     if (l13 != l17) goto L84;
@@ -2673,7 +2240,7 @@ L121:;
     l40 = (l40 - 1u);
     if (l40 != 0u) goto L119;
     t13 = ipl_w8_after_part(m, l37, l20, (ipl_u64)32u);
-    ipl_w17_decode_written(m, (l9 + 560u), (l9 + 1584u), t13);
+    ipl_w12_decode_written(m, (l9 + 560u), (l9 + 1584u), t13);
     l38 = 1u;
     l34 = 0u;
     switch ((ipl_u32)(ipl_u64)IPL_L8(l9, 560u)) {
@@ -2711,7 +2278,7 @@ L127:;
     l35 = l40;
     l36 = l19;
 L129:;
-    ipl_w18_record_at(m, (l9 + 560u), l36, l35, l37);
+    ipl_w13_record_at(m, (l9 + 560u), l36, l35, l37);
     if (IPL_L8(l9, 560u) != 1u) goto L72;
     l36 = IPL_L64(l9, 1064u);
     l35 = IPL_L64(l9, 1072u);
@@ -2752,7 +2319,7 @@ L133:;
     l35 = IPL_L64(l9, 3080u);
     l43 = 0u;
     IPL_FILL((l9 + 560u), 0u, (ipl_u64)520u);
-    ipl_w18_record_at(m, (l9 + 560u), l21, l35, l37);
+    ipl_w13_record_at(m, (l9 + 560u), l21, l35, l37);
     if (IPL_L8(l9, 560u) != 1u) goto L135;
     l43 = 0u;
 L136:;
@@ -2760,7 +2327,7 @@ L136:;
     l35 = IPL_L64(l9, 1072u);
     l36 = IPL_L64(l9, 1064u);
     IPL_FILL((l9 + 560u), 0u, (ipl_u64)520u);
-    ipl_w18_record_at(m, (l9 + 560u), l36, l35, l37);
+    ipl_w13_record_at(m, (l9 + 560u), l36, l35, l37);
     l43 = ((1u << (l39 & 31u)) | l43);
     if (IPL_L8(l9, 560u) == 1u) goto L136;
 L135:;
@@ -2785,7 +2352,7 @@ L141:;
     IPL_S64U((l55 + (l49 << 3)), 0u, l27);
     IPL_S64(l56, 0u, (l49 + 1u));
 L140:;
-    ipl_w19_add(m, l54, l42, l33, l32, l43);
+    ipl_w14_add(m, l54, l42, l33, l32, l43);
     l35 = (IPL_L64(l53, 64u) + l51);
     IPL_S8(l35, 0u, (IPL_L8(l35, 0u) + 1u));
     goto L137;
@@ -2814,7 +2381,7 @@ L143:;
     IPL_COPY(l12, (l9 + 2592u), (ipl_u64)488u);
     IPL_S8(l9, 560u, l37);
     IPL_COPY(l48, (l9 + 3088u), (ipl_u64)495u);
-    t14 = ipl_w20_add_payload(m, l36, (l9 + 560u), l35);
+    t14 = ipl_w15_add_payload(m, l36, (l9 + 560u), l35);
     l31 = t14;
 L126:;
     l36 = (l41 > l26 ? l41 : l26);
@@ -2867,7 +2434,7 @@ L147:;
     IPL_COPY(l10, (l9 + 3088u), (ipl_u64)495u);
     l41 = IPL_L64(l9, 3080u);
     IPL_FILL((l9 + 560u), 0u, (ipl_u64)520u);
-    ipl_w18_record_at(m, (l9 + 560u), l21, l41, l37);
+    ipl_w13_record_at(m, (l9 + 560u), l21, l41, l37);
     if (IPL_L8(l9, 560u) != 1u) goto L146;
     l41 = IPL_L64(l9, 576u);
     l36 = (l41 > l36 ? l41 : l36);
@@ -3149,7 +2716,7 @@ L1:;
 }
 
 /* unit_io::reading::read_found::<#81e02dbab8cd6729> */
-static void ipl_w15_read_found(ipl_u8 *const m, ipl_u64 l0, ipl_u64 l1, ipl_u32 l2, ipl_u32 l3, ipl_u64 l4) {
+static void ipl_w10_read_found(ipl_u8 *const m, ipl_u64 l0, ipl_u64 l1, ipl_u32 l2, ipl_u32 l3, ipl_u64 l4) {
     ipl_u32 l8 = 0, t2, t3, t4, t5;
     ipl_u64 l5 = 0, l6 = 0, l7 = 0, t1, t6;
     IPL_ENDS
@@ -3191,7 +2758,7 @@ L8:;
     l7 = (l7 - 1u);
     if (l7 != 0u) goto L6;
     t5 = ipl_w8_after_part(m, l2, (l4 + 480u), (ipl_u64)32u);
-    ipl_w17_decode_written(m, (l5 + 56u), l4, t5);
+    ipl_w12_decode_written(m, (l5 + 56u), l4, t5);
     IPL_S64(l5, 40u, IPL_L64(l5, 72u));
     IPL_S64(l5, 48u, IPL_L64(l5, 80u));
     l1 = (ipl_u64)0u;
@@ -3252,7 +2819,7 @@ L1:;
 }
 
 /* number_set::number_set::NumberSet::add */
-static void ipl_w16_add(ipl_u8 *const m, ipl_u64 l0, ipl_u64 l1) {
+static void ipl_w11_add(ipl_u8 *const m, ipl_u64 l0, ipl_u64 l1) {
     ipl_u32 t1;
     ipl_u64 l2 = 0, l3 = 0, l4 = 0, l5 = 0, l6 = 0, l7 = 0, l8 = 0, l9 = 0, l10 = 0, l11 = 0;
     IPL_ENDS
@@ -3287,7 +2854,7 @@ L6:;
 L2:;
     l10 = IPL_L64(l0, 16u);
     if (l10 != l5) goto L7;
-    t1 = ipl_w21_grow_amortized(m, l0);
+    t1 = ipl_w16_grow_amortized(m, l0);
     if (t1 == 0) goto L1;
     l10 = IPL_L64(l0, 16u);
     l5 = IPL_L64(l0, 8u);
@@ -3362,7 +2929,7 @@ L1:;
 }
 
 /* sector_format::decoding::decode_written */
-static void ipl_w17_decode_written(ipl_u8 *const m, ipl_u64 l0, ipl_u64 l1, ipl_u32 l2) {
+static void ipl_w12_decode_written(ipl_u8 *const m, ipl_u64 l0, ipl_u64 l1, ipl_u32 l2) {
     ipl_u32 l3 = 0, l4 = 0, t1, t2;
     ipl_u64 l5 = 0, l6 = 0, l7 = 0, l8 = 0, t3, t4;
     IPL_ENDS
@@ -3424,7 +2991,7 @@ L2:;
 }
 
 /* log_records::reading::record_at */
-static void ipl_w18_record_at(ipl_u8 *const m, ipl_u64 l0, ipl_u64 l1, ipl_u64 l2, ipl_u32 l3) {
+static void ipl_w13_record_at(ipl_u8 *const m, ipl_u64 l0, ipl_u64 l1, ipl_u64 l2, ipl_u32 l3) {
     ipl_u32 l5 = 0, l6 = 0, l7 = 0, l8 = 0, l11 = 0;
     ipl_u64 l4 = 0, l9 = 0, l10 = 0, l12 = 0, t1, t2, t3;
     IPL_ENDS
@@ -3505,7 +3072,7 @@ L1:;
 }
 
 /* overflow::overflow::Overflow::add */
-static void ipl_w19_add(ipl_u8 *const m, ipl_u64 l0, ipl_u32 l1, ipl_u32 l2, ipl_u32 l3, ipl_u32 l4) {
+static void ipl_w14_add(ipl_u8 *const m, ipl_u64 l0, ipl_u32 l1, ipl_u32 l2, ipl_u32 l3, ipl_u32 l4) {
     ipl_u32 l8 = 0, l9 = 0, t2;
     ipl_u64 l5 = 0, l6 = 0, l7 = 0, l10 = 0, l11 = 0, l12 = 0, l13 = 0, l14 = 0, l15 = 0, l16 = 0, l17 = 0, l18 = 0, l19 = 0, t1;
     IPL_ENDS
@@ -3547,7 +3114,7 @@ L3:;
 L6:;
     l14 = (l5 + 10u);
     if (l13 != l12) goto L5;
-    t2 = ipl_w22_grow_amortized(m, (l0 + 40u));
+    t2 = ipl_w17_grow_amortized(m, (l0 + 40u));
     if (t2 == 0) goto L4;
     l13 = IPL_L64(l0, 56u);
     l12 = IPL_L64(l0, 48u);
@@ -3635,7 +3202,7 @@ L4:;
 }
 
 /* restart::joining::add_payload */
-static ipl_u32 ipl_w20_add_payload(ipl_u8 *const m, ipl_u64 l0, ipl_u64 l1, ipl_u64 l2) {
+static ipl_u32 ipl_w15_add_payload(ipl_u8 *const m, ipl_u64 l0, ipl_u64 l1, ipl_u64 l2) {
     ipl_u32 l5 = 0, l6 = 0;
     ipl_u64 l3 = 0, l4 = 0, l7 = 0, l8 = 0, l9 = 0, l10 = 0, l11 = 0, l12 = 0, l13 = 0, l14 = 0, l15 = 0, l16 = 0, t1;
     IPL_ENDS
@@ -3645,7 +3212,7 @@ static ipl_u32 ipl_w20_add_payload(ipl_u8 *const m, ipl_u64 l0, ipl_u64 l1, ipl_
     l4 = IPL_L64((l1 + 488u), 0u);
     l5 = IPL_L8(l1, 0u);
     IPL_FILL((l3 + 8u), 0u, (ipl_u64)520u);
-    ipl_w18_record_at(m, (l3 + 8u), (l1 + 8u), l4, l5);
+    ipl_w13_record_at(m, (l3 + 8u), (l1 + 8u), l4, l5);
     l6 = 1u;
     if (IPL_L8(l3, 8u) != 1u) goto L1;
     l7 = (l2 + 24u);
@@ -3689,7 +3256,7 @@ L8:;
     IPL_S64(l11, 0u, (IPL_L64(l11, 0u) + 1u));
 L3:;
     IPL_FILL((l3 + 8u), 0u, (ipl_u64)520u);
-    ipl_w18_record_at(m, (l3 + 8u), l14, l13, l5);
+    ipl_w13_record_at(m, (l3 + 8u), l14, l13, l5);
     if (IPL_L8(l3, 8u) == 1u) goto L2;
 L1:;
     IPL_G(0) = (l3 + 528u);
@@ -3697,7 +3264,7 @@ L1:;
 }
 
 /* std_alloc::vec::Vec::grow_amortized::<#7d37c53cfa628592> */
-static ipl_u32 ipl_w21_grow_amortized(ipl_u8 *const m, ipl_u64 l0) {
+static ipl_u32 ipl_w16_grow_amortized(ipl_u8 *const m, ipl_u64 l0) {
     ipl_u32 l2 = 0;
     ipl_u64 l1 = 0, l3 = 0, l4 = 0, l5 = 0, l6 = 0, t1;
     IPL_ENDS
@@ -3732,7 +3299,7 @@ L1:;
 }
 
 /* std_alloc::vec::Vec::grow_amortized::<#a3866bc0ef1d39ae> */
-static ipl_u32 ipl_w22_grow_amortized(ipl_u8 *const m, ipl_u64 l0) {
+static ipl_u32 ipl_w17_grow_amortized(ipl_u8 *const m, ipl_u64 l0) {
     ipl_u32 l2 = 0;
     ipl_u64 l1 = 0, l3 = 0, l4 = 0, l5 = 0, l6 = 0, t1;
     IPL_ENDS
@@ -3766,6 +3333,446 @@ L1:;
     return l2;
 }
 
+/* unit_directory::directory::Directory::new */
+static void ipl_w18_new(ipl_u8 *const m, ipl_u64 l0, ipl_u32 l1, ipl_u32 l2) {
+    ipl_u32 l6 = 0;
+    ipl_u64 l3 = 0, l4 = 0, l5 = 0, l7 = 0, l8 = 0, l9 = 0, l10 = 0, l11 = 0, l12 = 0, l13 = 0, l14 = 0, l15 = 0, t1;
+    IPL_ENDS
+    t1 = IPL_G(0);
+    l3 = (t1 - 192u);
+    IPL_G(0) = l3;
+    IPL_S64(l3, 176u, (ipl_u64)0u);
+    IPL_S64(l3, 168u, (ipl_u64)0u);
+    IPL_S64(l3, 160u, (ipl_u64)0u);
+    IPL_S64(l3, 152u, (ipl_u64)0u);
+    IPL_S64(l3, 144u, (ipl_u64)0u);
+    IPL_S64(l3, 104u, (ipl_u64)0u);
+    IPL_S64(l3, 112u, (ipl_u64)0u);
+    IPL_S64(l3, 120u, (ipl_u64)0u);
+    IPL_S64(l3, 128u, (ipl_u64)0u);
+    IPL_S64(l3, 136u, (ipl_u64)0u);
+    IPL_S64(l3, 72u, (ipl_u64)0u);
+    IPL_S64(l3, 80u, (ipl_u64)0u);
+    IPL_S64(l3, 88u, (ipl_u64)0u);
+    IPL_S64U(l3, 94u, (ipl_u64)0u);
+    l4 = (ipl_u64)l1;
+    l5 = (l4 - 4u);
+    l6 = (ipl_u32)(l5 == 0);
+    if (l6 == 0) goto L11;
+    l7 = (l3 + 188u);
+    goto L10;
+L11:;
+    if (l1 < 4u) goto L9;
+    ipl_to_rattle_alloc(m, (l3 + 56u), (l5 << 2), (ipl_u64)4u);
+    if (((ipl_u32)IPL_L64(l3, 56u) & 1u) == 0) goto L9;
+    l7 = IPL_L64(l3, 64u);
+L10:;
+    l8 = (ipl_u64)l2;
+    if (l2 == 0) goto L12;
+    l9 = (l8 << 2);
+    if (l9 == 0) goto L12;
+    IPL_FILL(l7, 0u, l9);
+L12:;
+    ipl_to_rattle_alloc(m, (l3 + 40u), l4, (ipl_u64)1u);
+    if (((ipl_u32)IPL_L64(l3, 40u) & 1u) == 0) goto L8;
+    l10 = IPL_L64(l3, 48u);
+    if (l4 == 0) goto L13;
+    IPL_FILL(l10, 0u, l4);
+L13:;
+    ipl_to_rattle_alloc(m, (l3 + 24u), (l4 << 2), (ipl_u64)4u);
+    if (((ipl_u32)IPL_L64(l3, 24u) & 1u) == 0) goto L5;
+    l11 = IPL_L64(l3, 32u);
+    l9 = l11;
+    l12 = l4;
+L14:;
+    IPL_S32(l9, 0u, 1u);
+    l9 = (l9 + 4u);
+    l12 = (l12 - 1u);
+    if (!(l12 == 0)) goto L14;
+    if (l6 == 0) goto L7;
+    l13 = (l3 + 188u);
+    goto L6;
+L9:;
+    IPL_S8(l0, 0u, 1u);
+    IPL_FILL((l0 + 8u), 0u, (ipl_u64)456u);
+    goto L1;
+L8:;
+    if (l6 != 0) goto L15;
+    ipl_to_rattle_dealloc(m, l7);
+L15:;
+    IPL_S8(l0, 0u, 1u);
+    IPL_FILL((l0 + 8u), 0u, (ipl_u64)456u);
+    goto L1;
+L7:;
+    ipl_to_rattle_alloc(m, (l3 + 8u), (l5 << 2), (ipl_u64)4u);
+    if (((ipl_u32)IPL_L64(l3, 8u) & 1u) == 0) goto L4;
+    l13 = IPL_L64(l3, 16u);
+L6:;
+    if (l2 == 0) goto L16;
+    l9 = l13;
+    l12 = l8;
+L17:;
+    IPL_S32(l9, 0u, 32u);
+    l9 = (l9 + 4u);
+    l12 = (l12 - 1u);
+    if (!(l12 == 0)) goto L17;
+L16:;
+    ipl_w19_filled(m, (l3 + 144u), l5, l8);
+    if (IPL_L8(l3, 144u) != 0) goto L3;
+    IPL_S64(l3, 72u, (ipl_u64)0u);
+    IPL_S64(l3, 80u, (ipl_u64)0u);
+    IPL_S64(l3, 88u, (ipl_u64)0u);
+    IPL_S64U(l3, 94u, (ipl_u64)0u);
+    l14 = IPL_L64(l3, 176u);
+    l9 = IPL_L64(l3, 168u);
+    l15 = IPL_L64(l3, 160u);
+    l12 = IPL_L64(l3, 152u);
+    ipl_w20_filled(m, (l3 + 104u), l5, l8, (l3 + 72u));
+    if (IPL_L8(l3, 104u) != 0) goto L2;
+    IPL_S8(l0, 0u, 0u);
+    IPL_S64U(l0, 96u, l4);
+    IPL_S64U(l0, 88u, l4);
+    IPL_S64U(l0, 80u, l4);
+    IPL_S64U(l0, 72u, l11);
+    IPL_S64U(l0, 64u, l4);
+    IPL_S64U(l0, 56u, l4);
+    IPL_S64U(l0, 48u, l4);
+    IPL_S64U(l0, 40u, l10);
+    IPL_S64U(l0, 32u, l5);
+    IPL_S64U(l0, 24u, l5);
+    IPL_S64U(l0, 16u, l8);
+    IPL_S64U(l0, 8u, l7);
+    IPL_FILL((l0 + 104u), 0u, (ipl_u64)264u);
+    IPL_S64U((l0 + 424u), 0u, l14);
+    IPL_S64U((l0 + 416u), 0u, l9);
+    IPL_S64U((l0 + 408u), 0u, l15);
+    IPL_S64U((l0 + 400u), 0u, l12);
+    IPL_S64U((l0 + 392u), 0u, l5);
+    IPL_S64U((l0 + 384u), 0u, l5);
+    IPL_S64U((l0 + 376u), 0u, l8);
+    IPL_S64U((l0 + 368u), 0u, l13);
+    IPL_S64U((l0 + 432u), 0u, IPL_L64(l3, 112u));
+    IPL_S64U((l0 + 440u), 0u, IPL_L64(l3, 120u));
+    IPL_S64U((l0 + 448u), 0u, IPL_L64(l3, 128u));
+    IPL_S64U((l0 + 456u), 0u, IPL_L64(l3, 136u));
+    goto L1;
+L5:;
+    ipl_to_rattle_dealloc(m, l10);
+    if (l6 != 0) goto L18;
+    ipl_to_rattle_dealloc(m, l7);
+L18:;
+    IPL_S8(l0, 0u, 1u);
+    IPL_FILL((l0 + 8u), 0u, (ipl_u64)456u);
+    goto L1;
+L4:;
+    ipl_to_rattle_dealloc(m, l11);
+    ipl_to_rattle_dealloc(m, l10);
+    ipl_to_rattle_dealloc(m, l7);
+    IPL_S8(l0, 0u, 1u);
+    IPL_FILL((l0 + 8u), 0u, (ipl_u64)456u);
+    goto L1;
+L3:;
+    if (l6 != 0) goto L19;
+    ipl_to_rattle_dealloc(m, l13);
+    ipl_to_rattle_dealloc(m, l11);
+    l11 = l10;
+    l10 = l7;
+L19:;
+    ipl_to_rattle_dealloc(m, l11);
+    ipl_to_rattle_dealloc(m, l10);
+    IPL_S8(l0, 0u, 1u);
+    IPL_FILL((l0 + 8u), 0u, (ipl_u64)456u);
+    goto L1;
+L2:;
+    if (l9 == 0) goto L20;
+    ipl_to_rattle_dealloc(m, l12);
+L20:;
+    if (l6 != 0) goto L21;
+    ipl_to_rattle_dealloc(m, l13);
+    ipl_to_rattle_dealloc(m, l11);
+    l11 = l10;
+    l10 = l7;
+L21:;
+    ipl_to_rattle_dealloc(m, l11);
+    ipl_to_rattle_dealloc(m, l10);
+    IPL_S8(l0, 0u, 1u);
+    IPL_FILL((l0 + 8u), 0u, (ipl_u64)456u);
+L1:;
+    IPL_G(0) = (l3 + 192u);
+}
+
+/* bounded_vec::bounded_vec::BoundedVec::filled::<i64,21'core::clone::U64Clone{}> */
+static void ipl_w19_filled(ipl_u8 *const m, ipl_u64 l0, ipl_u64 l1, ipl_u64 l2) {
+    ipl_u64 l3 = 0, l4 = 0, l5 = 0, t1;
+    IPL_ENDS
+    t1 = IPL_G(0);
+    l3 = (t1 - 32u);
+    IPL_G(0) = l3;
+    if (!(l1 == 0)) goto L4;
+    l4 = (l3 + 24u);
+    goto L3;
+L4:;
+    if (l1 > 1152921504606846975ull) goto L2;
+    ipl_to_rattle_alloc(m, (l3 + 8u), (l1 << 3), (ipl_u64)8u);
+    if (((ipl_u32)IPL_L64(l3, 8u) & 1u) == 0) goto L2;
+    l4 = IPL_L64(l3, 16u);
+L3:;
+    if (l2 == 0) goto L5;
+    l5 = (l2 << 3);
+    if (l5 == 0) goto L5;
+    IPL_FILL(l4, 0u, l5);
+L5:;
+    IPL_S8(l0, 0u, 0u);
+    IPL_S64U(l0, 32u, l1);
+    IPL_S64U(l0, 24u, l1);
+    IPL_S64U(l0, 16u, l2);
+    IPL_S64U(l0, 8u, l4);
+    goto L1;
+L2:;
+    IPL_S8(l0, 0u, 1u);
+    IPL_S64U(l0, 8u, (ipl_u64)0u);
+    IPL_S64U(l0, 16u, (ipl_u64)0u);
+    IPL_S64U(l0, 24u, (ipl_u64)0u);
+    IPL_S64U(l0, 32u, (ipl_u64)0u);
+L1:;
+    IPL_G(0) = (l3 + 32u);
+}
+
+/* bounded_vec::bounded_vec::BoundedVec::filled::<#f86fe6bdae9e3602> */
+static void ipl_w20_filled(ipl_u8 *const m, ipl_u64 l0, ipl_u64 l1, ipl_u64 l2, ipl_u64 l3) {
+    ipl_u64 l4 = 0, l5 = 0, l6 = 0, t1;
+    IPL_ENDS
+    t1 = IPL_G(0);
+    l4 = (t1 - 48u);
+    IPL_G(0) = l4;
+    IPL_S64U(l4, 38u, IPL_L64U(l3, 22u));
+    IPL_S64(l4, 32u, IPL_L64U(l3, 16u));
+    IPL_S64(l4, 24u, IPL_L64U(l3, 8u));
+    IPL_S64(l4, 16u, IPL_L64U(l3, 0u));
+    if (!(l1 == 0)) goto L4;
+    l5 = (l4 + 46u);
+    goto L3;
+L4:;
+    if ((ipl_s64)l1 < (ipl_s64)(ipl_u64)0u) goto L2;
+    ipl_to_rattle_alloc(m, l4, (l1 * 30u), (ipl_u64)2u);
+    if (((ipl_u32)IPL_L64(l4, 0u) & 1u) == 0) goto L2;
+    l5 = IPL_L64(l4, 8u);
+L3:;
+    if (l2 == 0) goto L5;
+    l3 = l5;
+    l6 = l2;
+L6:;
+    IPL_S64U(l3, 22u, IPL_L64U(l4, 38u));
+    IPL_S64U(l3, 16u, IPL_L64(l4, 32u));
+    IPL_S64U(l3, 8u, IPL_L64(l4, 24u));
+    IPL_S64U(l3, 0u, IPL_L64(l4, 16u));
+    l3 = (l3 + 30u);
+    l6 = (l6 - 1u);
+    if (l6 != 0u) goto L6;
+L5:;
+    IPL_S8(l0, 0u, 0u);
+    IPL_S64U(l0, 32u, l1);
+    IPL_S64U(l0, 24u, l1);
+    IPL_S64U(l0, 16u, l2);
+    IPL_S64U(l0, 8u, l5);
+    goto L1;
+L2:;
+    IPL_S8(l0, 0u, 1u);
+    IPL_S64U(l0, 8u, (ipl_u64)0u);
+    IPL_S64U(l0, 16u, (ipl_u64)0u);
+    IPL_S64U(l0, 24u, (ipl_u64)0u);
+    IPL_S64U(l0, 32u, (ipl_u64)0u);
+L1:;
+    IPL_G(0) = (l4 + 48u);
+}
+
+/* restart::recovery::Scratch::new */
+static void ipl_w21_new(ipl_u8 *const m, ipl_u64 l0, ipl_u32 l1, ipl_u32 l2) {
+    ipl_u32 l9 = 0;
+    ipl_u64 l3 = 0, l4 = 0, l5 = 0, l6 = 0, l7 = 0, l8 = 0, l10 = 0, l11 = 0, l12 = 0, l13 = 0, t1;
+    IPL_ENDS
+    t1 = IPL_G(0);
+    l3 = (t1 - 128u);
+    IPL_G(0) = l3;
+    if (l1 == 0) goto L7;
+    l4 = (ipl_u64)l1;
+    l5 = (l4 * 40u);
+    ipl_to_rattle_alloc(m, (l3 + 104u), l5, (ipl_u64)8u);
+    if (((ipl_u32)IPL_L64(l3, 104u) & 1u) == 0) goto L11;
+    l6 = IPL_L64(l3, 112u);
+    l7 = (ipl_u64)0u;
+L12:;
+    l8 = (l6 + l7);
+    IPL_S64U(l8, 32u, (ipl_u64)0u);
+    IPL_S64U(l8, 24u, (ipl_u64)0u);
+    IPL_S64U(l8, 16u, (ipl_u64)0u);
+    IPL_S64U(l8, 8u, (ipl_u64)0u);
+    IPL_S64U(l8, 0u, (ipl_u64)0u);
+    l7 = (l7 + 40u);
+    if (l5 != l7) goto L12;
+    l5 = (l4 - 4u);
+    l9 = (ipl_u32)(l5 == 0);
+    if (l9 != 0) goto L10;
+    if (l1 < 4u) goto L8;
+    ipl_to_rattle_alloc(m, (l3 + 88u), (l5 * 48u), (ipl_u64)8u);
+    if (((ipl_u32)IPL_L64(l3, 88u) & 1u) == 0) goto L8;
+    l10 = IPL_L64(l3, 96u);
+    l8 = l10;
+    l7 = l5;
+L13:;
+    IPL_S64U(l8, 40u, (ipl_u64)0u);
+    IPL_S64U(l8, 32u, (ipl_u64)0u);
+    IPL_S64U(l8, 24u, (ipl_u64)0u);
+    IPL_S64U(l8, 16u, (ipl_u64)0u);
+    IPL_S64U(l8, 8u, (ipl_u64)0u);
+    IPL_S64U(l8, 0u, (ipl_u64)0u);
+    l8 = (l8 + 48u);
+    l7 = (l7 - 1u);
+    if (!(l7 == 0)) goto L13;
+    l8 = (l5 * 248u);
+    ipl_to_rattle_alloc(m, (l3 + 72u), l8, (ipl_u64)8u);
+    if (((ipl_u32)IPL_L64(l3, 72u) & 1u) == 0) goto L3;
+    l11 = IPL_L64(l3, 80u);
+    if (l8 == 0) goto L14;
+    IPL_FILL(l11, 0u, l8);
+L14:;
+    ipl_to_rattle_alloc(m, (l3 + 56u), l5, (ipl_u64)1u);
+    if (((ipl_u32)IPL_L64(l3, 56u) & 1u) == 0) goto L4;
+    l12 = IPL_L64(l3, 64u);
+    if (l9 != 0) goto L15;
+    IPL_FILL(l12, 0u, l5);
+L15:;
+    ipl_to_rattle_alloc(m, (l3 + 40u), l5, (ipl_u64)1u);
+    if (((ipl_u32)IPL_L64(l3, 40u) & 1u) == 0) goto L5;
+    l8 = IPL_L64(l3, 48u);
+    if (l9 != 0) goto L16;
+    IPL_FILL(l8, 0u, l5);
+L16:;
+    ipl_to_rattle_alloc(m, (l3 + 24u), l4, (ipl_u64)1u);
+    if (((ipl_u32)IPL_L64(l3, 24u) & 1u) == 0) goto L6;
+    l7 = (l5 * 31u);
+    l13 = IPL_L64(l3, 32u);
+    goto L9;
+L11:;
+    IPL_S8(l0, 0u, 1u);
+    IPL_FILL((l0 + 8u), 0u, (ipl_u64)208u);
+    goto L1;
+L10:;
+    ipl_to_rattle_alloc(m, (l3 + 8u), l4, (ipl_u64)1u);
+    if (((ipl_u32)IPL_L64(l3, 8u) & 1u) == 0) goto L2;
+    l7 = (ipl_u64)0u;
+    l13 = IPL_L64(l3, 16u);
+    l8 = (l3 + 120u);
+    l12 = l8;
+    l11 = l8;
+    l10 = l8;
+L9:;
+    if (l4 == 0) goto L17;
+    IPL_FILL(l13, 0u, l4);
+L17:;
+    IPL_S64U(l0, 208u, (ipl_u64)0u);
+    IPL_S64U(l0, 200u, l4);
+    IPL_S64U(l0, 192u, l4);
+    IPL_S64U(l0, 184u, l4);
+    IPL_S64U(l0, 176u, l13);
+    IPL_S64U(l0, 168u, l5);
+    IPL_S64U(l0, 160u, l5);
+    IPL_S64U(l0, 152u, l5);
+    IPL_S64U(l0, 144u, l8);
+    IPL_S64U(l0, 136u, l5);
+    IPL_S64U(l0, 128u, l5);
+    IPL_S64U(l0, 120u, l5);
+    IPL_S64U(l0, 112u, l12);
+    IPL_S64U(l0, 104u, l7);
+    IPL_S64U(l0, 96u, l7);
+    IPL_S64U(l0, 88u, l7);
+    IPL_S64U(l0, 80u, l11);
+    IPL_S64U(l0, 72u, l5);
+    IPL_S64U(l0, 64u, l5);
+    IPL_S64U(l0, 56u, l5);
+    IPL_S64U(l0, 48u, l10);
+    IPL_S64U(l0, 40u, l4);
+    IPL_S64U(l0, 32u, l4);
+    IPL_S64U(l0, 24u, l4);
+    IPL_S64U(l0, 16u, l6);
+    IPL_S32U(l0, 12u, l2);
+    IPL_S32U(l0, 8u, l1);
+    IPL_S8(l0, 0u, 0u);
+    goto L1;
+L8:;
+    ipl_to_rattle_dealloc(m, l6);
+L7:;
+    IPL_S8(l0, 0u, 1u);
+    IPL_FILL((l0 + 8u), 0u, (ipl_u64)208u);
+    goto L1;
+L6:;
+    ipl_to_rattle_dealloc(m, l8);
+L5:;
+    ipl_to_rattle_dealloc(m, l12);
+L4:;
+    ipl_to_rattle_dealloc(m, l11);
+L3:;
+    ipl_to_rattle_dealloc(m, l10);
+L2:;
+    ipl_to_rattle_dealloc(m, l6);
+    IPL_S8(l0, 0u, 1u);
+    IPL_FILL((l0 + 8u), 0u, (ipl_u64)208u);
+L1:;
+    IPL_G(0) = (l3 + 128u);
+}
+
+/* restart::numbers::KeptNumbers::new */
+static void ipl_w22_new(ipl_u8 *const m, ipl_u64 l0, ipl_u64 l1) {
+    ipl_u32 l5 = 0;
+    ipl_u64 l2 = 0, l3 = 0, l4 = 0, l6 = 0, l7 = 0, t1;
+    IPL_ENDS
+    t1 = IPL_G(0);
+    l2 = (t1 - 32u);
+    IPL_G(0) = l2;
+    l3 = ((l1 + 7u) >> 3);
+    ipl_to_rattle_alloc(m, (l2 + 16u), l3, (ipl_u64)1u);
+    if (((ipl_u32)IPL_L64(l2, 16u) & 1u) == 0) goto L3;
+    l4 = IPL_L64(l2, 24u);
+    l5 = (ipl_u32)(l3 == 0);
+    if (l5 != 0) goto L4;
+    IPL_FILL(l4, 0u, l3);
+L4:;
+    ipl_to_rattle_alloc(m, l2, l3, (ipl_u64)1u);
+    if (((ipl_u32)IPL_L64(l2, 0u) & 1u) == 0) goto L2;
+    l6 = (l1 - 60u);
+    l6 = (l6 < 3840u ? l6 : (ipl_u64)3840u);
+    l7 = IPL_L64(l2, 8u);
+    if (l5 != 0) goto L5;
+    IPL_FILL(l7, 0u, l3);
+L5:;
+    IPL_S64U(l0, 112u, l1);
+    IPL_S64U(l0, 104u, l6);
+    IPL_S64U(l0, 96u, (ipl_u64)0u);
+    IPL_S64U(l0, 88u, l3);
+    IPL_S64U(l0, 80u, l3);
+    IPL_S64U(l0, 72u, l3);
+    IPL_S64U(l0, 64u, l7);
+    IPL_S64U(l0, 56u, l1);
+    IPL_S64U(l0, 48u, l6);
+    IPL_S64U(l0, 40u, (ipl_u64)0u);
+    IPL_S64U(l0, 32u, l3);
+    IPL_S64U(l0, 24u, l3);
+    IPL_S64U(l0, 16u, l3);
+    IPL_S64U(l0, 8u, l4);
+    IPL_S8(l0, 0u, 0u);
+    goto L1;
+L3:;
+    IPL_S8(l0, 0u, 1u);
+    IPL_FILL((l0 + 8u), 0u, (ipl_u64)112u);
+    goto L1;
+L2:;
+    ipl_to_rattle_dealloc(m, l4);
+    IPL_S8(l0, 0u, 1u);
+    IPL_FILL((l0 + 8u), 0u, (ipl_u64)112u);
+L1:;
+    IPL_G(0) = (l2 + 32u);
+}
+
 /* unit_log::live::read_live::<#81e02dbab8cd6729> */
 static void ipl_w23_read_live(ipl_u8 *const m, ipl_u64 l0, ipl_u64 l1, ipl_u64 l2, ipl_u64 l3, ipl_u32 l4, ipl_u64 l5) {
     ipl_u32 l9 = 0, l10 = 0, l11 = 0, l12 = 0, l13 = 0;
@@ -3791,7 +3798,7 @@ L1:;
     IPL_S64(l6, 824u, (ipl_u64)0u);
     IPL_S64(l6, 816u, (ipl_u64)0u);
     IPL_S64(l6, 808u, (ipl_u64)0u);
-    ipl_w15_read_found(m, (l6 + 808u), l1, l10, 0u, (l6 + 296u));
+    ipl_w10_read_found(m, (l6 + 808u), l1, l10, 0u, (l6 + 296u));
     l11 = IPL_L32(l6, 816u);
     if (IPL_L8(l6, 808u) != 0) goto L5;
     if ((l11 & 255u) != 2u) goto L7;
@@ -3929,7 +3936,7 @@ static void ipl_w24_read_spot(ipl_u8 *const m, ipl_u64 l0, ipl_u64 l1, ipl_u32 l
     IPL_S64(l7, 1024u, (ipl_u64)0u);
     IPL_S64(l7, 1016u, (ipl_u64)0u);
     IPL_S64(l7, 1008u, (ipl_u64)0u);
-    ipl_w15_read_found(m, (l7 + 1008u), l1, l4, l5, (l7 + 1u));
+    ipl_w10_read_found(m, (l7 + 1008u), l1, l4, l5, (l7 + 1u));
     l8 = IPL_L32(l7, 1028u);
     l9 = IPL_L32(l7, 1024u);
     l10 = IPL_L32(l7, 1016u);
@@ -3965,7 +3972,7 @@ L13:;
     l1 = l16;
     l3 = l18;
 L14:;
-    ipl_w18_record_at(m, (l7 + 1008u), l3, l1, l10);
+    ipl_w13_record_at(m, (l7 + 1008u), l3, l1, l10);
     if (IPL_L8(l7, 1008u) != 1u) goto L10;
     l3 = IPL_L64(l7, 1512u);
     l1 = IPL_L64(l7, 1520u);
@@ -4208,7 +4215,7 @@ L5:;
     l21 = IPL_L8(l4, 8u);
     l1 = IPL_L64((l4 + 496u), 0u);
     IPL_FILL((l12 + 760u), 0u, (ipl_u64)520u);
-    ipl_w18_record_at(m, (l12 + 760u), (l4 + 16u), l1, l21);
+    ipl_w13_record_at(m, (l12 + 760u), (l4 + 16u), l1, l21);
     if (IPL_L8(l12, 760u) != 1u) goto L6;
     l16 = IPL_L64(l12, 776u);
     l22 = IPL_L32(l12, 772u);
@@ -4365,7 +4372,7 @@ L30:;
     l3 = IPL_L8(l4, 8u);
     l1 = IPL_L64((l4 + 496u), 0u);
     IPL_FILL((l12 + 760u), 0u, (ipl_u64)520u);
-    ipl_w18_record_at(m, (l12 + 760u), (l4 + 16u), l1, l3);
+    ipl_w13_record_at(m, (l12 + 760u), (l4 + 16u), l1, l3);
     if (IPL_L8(l12, 760u) != 1u) goto L31;
     l28 = IPL_L64(l12, 1264u);
     l24 = IPL_L64(l12, 1272u);
@@ -4486,7 +4493,7 @@ L46:;
     l3 = IPL_L8(l4, 8u);
     l1 = IPL_L64((l4 + 496u), 0u);
     IPL_FILL((l12 + 760u), 0u, (ipl_u64)520u);
-    ipl_w18_record_at(m, (l12 + 760u), (l4 + 16u), l1, l3);
+    ipl_w13_record_at(m, (l12 + 760u), (l4 + 16u), l1, l3);
     if (IPL_L8(l12, 760u) != 1u) goto L47;
     l23 = IPL_L64(l12, 1264u);
     l24 = IPL_L64(l12, 1272u);
@@ -5154,7 +5161,7 @@ L14:;
     l26 = ((l8 + 8u) + l9);
     l9 = (l9 + 1u);
     if (IPL_L8(l26, 0u) == 255u) goto L14;
-    ipl_w17_decode_written(m, (l8 + 520u), (l8 + 8u), l27);
+    ipl_w12_decode_written(m, (l8 + 520u), (l8 + 8u), l27);
     l5 = IPL_L32(l8, 528u);
     l28 = IPL_L8(l8, 520u);
     if (l28 == 3u) goto L15;
@@ -5471,7 +5478,7 @@ L4:;
     IPL_FILL((l3 + 4912u), 0u, (ipl_u64)216u);
     IPL_FILL((l3 + 7560u), 0u, (ipl_u64)464u);
     l8 = (l2 + (ipl_u32)4294967292u);
-    ipl_w9_new(m, (l3 + 7560u), l2, l8);
+    ipl_w18_new(m, (l3 + 7560u), l2, l8);
     if (IPL_L8F(l3, 7560u) != 0) goto L7;
     l9 = (ipl_u64)l8;
     l10 = IPL_L64F(l3, 8016u);
@@ -5936,7 +5943,7 @@ L55:;
     if (l5 != 0) goto L84;
     IPL_FILL(l27, 0u, l1);
 L84:;
-    ipl_w12_new(m, (l3 + 4912u), l2, l8);
+    ipl_w21_new(m, (l3 + 4912u), l2, l8);
     if (IPL_L8F(l3, 4912u) == 0) goto L85;
     ipl_to_rattle_dealloc(m, l23);
     ipl_to_rattle_dealloc(m, l27);
@@ -6274,7 +6281,7 @@ L6:;
     IPL_S64F(l3, 8944u, (ipl_u64)0u);
     IPL_S64F(l3, 8936u, (ipl_u64)0u);
     IPL_S64F(l3, 8976u, (l3 + 2968u));
-    ipl_w14_read_chip(m, (l3 + 8936u), l2, IPL_L32F(l3, 5720u), IPL_L64F(l3, 5728u), IPL_L64F(l3, 5736u), IPL_L64F(l3, 5760u), (l3 + 8968u), 1u, 1u);
+    ipl_w9_read_chip(m, (l3 + 8936u), l2, IPL_L32F(l3, 5720u), IPL_L64F(l3, 5728u), IPL_L64F(l3, 5736u), IPL_L64F(l3, 5760u), (l3 + 8968u), 1u, 1u);
     if (IPL_L8F(l3, 8936u) != 0) goto L11;
     IPL_S64(l3, 3576u, (IPL_L64F(l3, 8944u) + 1u));
     l7 = IPL_L8F(l3, 8952u);
@@ -6777,7 +6784,7 @@ L3:;
     l1 = (l8 - 496u);
 L9:;
     l1 = (l1 + 504u);
-    t2 = ipl_w20_add_payload(m, l9, l1, l6);
+    t2 = ipl_w15_add_payload(m, l9, l1, l6);
     if (t2 == 0) goto L8;
     l7 = (l7 - 1u);
     if (l7 == 0) goto L7;
@@ -7355,7 +7362,7 @@ L77:;
     l10 = IPL_L64((l5 + 488u), 0u);
     l6 = 0u;
     IPL_FILL((l4 + 7824u), 0u, (ipl_u64)520u);
-    ipl_w18_record_at(m, (l4 + 7824u), (l5 + 8u), l10, l7);
+    ipl_w13_record_at(m, (l4 + 7824u), (l5 + 8u), l10, l7);
     if (IPL_L8F(l4, 7824u) != 1u) goto L78;
     l6 = (1u << (IPL_L16F(l4, 7832u) & 31u));
     l10 = IPL_L64F(l4, 8336u);
@@ -8226,8 +8233,203 @@ L1:;
     IPL_S32U(l0, 4u, l5);
 }
 
+/* page_rebuild::loading::load::<#81e02dbab8cd6729> */
+static void ipl_w47_load(ipl_u8 *const m, ipl_u64 l0, ipl_u64 l1, ipl_u64 l2, ipl_u64 l3, ipl_u64 l4, ipl_u64 l5, ipl_u64 l6, ipl_u32 l7, ipl_u32 l8, ipl_u64 l9, ipl_u64 l10) {
+    ipl_u32 l14 = 0, l16 = 0;
+    ipl_u64 l11 = 0, l12 = 0, l13 = 0, l15 = 0, l17 = 0, l18 = 0, l19 = 0, l20 = 0, l21 = 0, t1;
+    IPL_ENDS
+    t1 = IPL_G(0);
+    l11 = (t1 - 1200u);
+    IPL_G(0) = l11;
+    l12 = (ipl_u64)0u;
+    IPL_S64(l11, 64u, (ipl_u64)0u);
+    IPL_S64(l11, 56u, (ipl_u64)0u);
+    IPL_S64(l11, 48u, (ipl_u64)0u);
+    IPL_S64(l11, 16u, (ipl_u64)0u);
+    IPL_S64(l11, 24u, (ipl_u64)0u);
+    IPL_S64(l11, 32u, (ipl_u64)0u);
+    IPL_S64(l11, 40u, (ipl_u64)0u);
+    IPL_S64(l11, 0u, (ipl_u64)0u);
+    IPL_S64U(l11, 7u, (ipl_u64)0u);
+    l13 = (ipl_u64)l7;
+    l14 = IPL_L32((IPL_L64(l2, 0u) + (l13 << 2)), 0u);
+    IPL_S64U(l11, 79u, (ipl_u64)0u);
+    IPL_S64(l11, 72u, (ipl_u64)0u);
+    IPL_FILL((l11 + 344u), 0u, (ipl_u64)256u);
+    l15 = (IPL_L64((l2 + 424u), 0u) + (l13 * 30u));
+    l16 = (1u << ((l8 & 65535u) & 31u));
+    l17 = (ipl_u64)l14;
+    l18 = (l17 | 1035087118336ull);
+    l2 = (ipl_u64)0u;
+L1:;
+    if ((l16 & IPL_L16((l15 + l12), 0u)) == 0) goto L2;
+    IPL_S64(((l11 + 344u) + (l2 << 3)), 0u, l18);
+    l2 = (l2 + 1u);
+    IPL_S64(l11, 592u, l2);
+L2:;
+    l18 = (l18 + 4294967296ull);
+    l12 = (l12 + 2u);
+    if (l12 != 30u) goto L1;
+    l19 = IPL_L64(l3, 8u);
+    l20 = (ipl_u64)IPL_L8((l19 + l13), 0u);
+    if (l20 == 0) goto L3;
+    l12 = (ipl_u64)0u;
+    l15 = (ipl_u64)0u;
+    if (l7 == 0) goto L4;
+    l18 = l19;
+    l21 = l13;
+    l15 = (ipl_u64)0u;
+L5:;
+    l15 = (l15 + (ipl_u64)IPL_L8(l18, 0u));
+    l18 = (l18 + 1u);
+    l21 = (l21 - 1u);
+    if (l21 != 0u) goto L5;
+L4:;
+    l21 = IPL_L64(l3, 40u);
+    IPL_FILL((l11 + 640u), 0u, (ipl_u64)128u);
+    l18 = (l21 + (l15 * 6u));
+    l15 = (l11 + 640u);
+L6:;
+    IPL_S64(l15, 0u, (((ipl_u64)IPL_L16U(l18, 2u) << 32) | (ipl_u64)IPL_L16U(l18, 0u)));
+    l12 = (l12 + 1u);
+    IPL_S64(l11, 768u, l12);
+    l18 = (l18 + 6u);
+    l15 = (l15 + 8u);
+    if (l20 != l12) goto L6;
+    l18 = (ipl_u64)0u;
+    l15 = (ipl_u64)0u;
+    if (l7 == 0) goto L7;
+    l15 = (ipl_u64)0u;
+L8:;
+    l15 = (l15 + (ipl_u64)IPL_L8(l19, 0u));
+    l19 = (l19 + 1u);
+    l13 = (l13 - 1u);
+    if (l13 != 0u) goto L8;
+L7:;
+    IPL_S64(l11, 624u, (ipl_u64)0u);
+    IPL_S64(l11, 616u, (ipl_u64)0u);
+    IPL_S64(l11, 608u, (ipl_u64)0u);
+    IPL_S64(l11, 600u, (ipl_u64)0u);
+    l15 = (((l15 * 6u) + l21) + 4u);
+    l19 = (l11 + 600u);
+L9:;
+    IPL_S16(l19, 0u, IPL_L16(l15, 0u));
+    l18 = (l18 + 1u);
+    IPL_S64(l11, 632u, l18);
+    l15 = (l15 + 6u);
+    l19 = (l19 + 2u);
+    if (l20 != l18) goto L9;
+    l15 = (l11 + 640u);
+    l18 = (l11 + 600u);
+L10:;
+    if ((l16 & IPL_L16(l18, 0u)) == 0) goto L11;
+    IPL_S64(((l11 + 344u) + (l2 << 3)), 0u, IPL_L64(l15, 0u));
+    l2 = (l2 + 1u);
+    IPL_S64(l11, 592u, l2);
+L11:;
+    l18 = (l18 + 2u);
+    l15 = (l15 + 8u);
+    l12 = (l12 - 1u);
+    if (l12 != 0u) goto L10;
+L3:;
+    IPL_COPY((l11 + 88u), (l11 + 344u), (ipl_u64)256u);
+    if (IPL_L64(l9, 8u) == 0) goto L12;
+    IPL_S64(l9, 8u, (ipl_u64)0u);
+L12:;
+    IPL_FILL((l11 + 640u), 0u, (ipl_u64)512u);
+    IPL_S64(l11, 1192u, (ipl_u64)0u);
+    IPL_S64(l11, 1184u, (ipl_u64)0u);
+    IPL_S64(l11, 1176u, (ipl_u64)0u);
+    IPL_S64(l11, 1168u, (ipl_u64)0u);
+    IPL_S64(l11, 1160u, (ipl_u64)0u);
+    IPL_S64(l11, 1152u, (ipl_u64)0u);
+    ipl_w10_read_found(m, (l11 + 1152u), l1, l14, 0u, (l11 + 640u));
+    l16 = IPL_L32(l11, 1160u);
+    if (IPL_L8(l11, 1152u) != 0) goto L15;
+    if ((l16 & 255u) != 2u) goto L17;
+    l16 = IPL_L32(l11, 1168u);
+    if (((l16 + (ipl_u32)4294967292u) & 255u) < 253u) goto L17;
+    if ((l16 & 255u) != 1u) goto L17;
+    if (IPL_L32(l11, 1172u) != l7) goto L17;
+    l16 = (l16 >> 8);
+    if (IPL_L64(l11, 1192u) != ((l16 & 255u) < 3u ? (ipl_u64)20u : (ipl_u64)24u)) goto L17;
+    l18 = IPL_L64(l11, 1176u);
+    IPL_S64U(l11, 1159u, IPL_L64U(l11, 683u));
+    IPL_S64(l11, 1152u, IPL_L64U(l11, 676u));
+    l15 = (l11 + 676u);
+    l12 = (ipl_u64)0u;
+L19:;
+    if (l12 == 15u) goto L18;
+    l2 = ((l11 + 1152u) + l12);
+    l12 = (l12 + 1u);
+    if (IPL_L8(l2, 0u) < 17u) goto L19;
+    goto L17;
+L18:;
+    if (IPL_L8(l11, 691u) < 13u) goto L16;
+L17:;
+    l12 = (ipl_u64)0u;
+    l16 = 3u;
+    goto L14;
+L16:;
+    IPL_S64(l11, 72u, IPL_L64U(l15, 0u));
+    IPL_S64U(l11, 79u, IPL_L64U(l15, 7u));
+    l2 = IPL_L64(l11, 336u);
+    IPL_S64(l11, 656u, (ipl_u64)0u);
+    IPL_S64(l11, 648u, (ipl_u64)0u);
+    IPL_S64(l11, 640u, (ipl_u64)0u);
+    if (l2 == 0) goto L20;
+    l12 = (l11 + 88u);
+L22:;
+    ipl_w24_read_spot(m, (l11 + 640u), l1, l7, l18, IPL_L32(l12, 0u), IPL_L32(l12, 4u), l9);
+    if (IPL_L8(l11, 640u) != 0) goto L21;
+    l12 = (l12 + 8u);
+    l2 = (l2 - 1u);
+    if (l2 == 0) goto L20;
+    goto L22;
+L21:;
+    l16 = IPL_L8(l11, 644u);
+    l17 = IPL_L64(l11, 648u);
+    l12 = IPL_L64(l11, 656u);
+    goto L14;
+L20:;
+    IPL_S64U(l11, 7u, IPL_L64U(l11, 79u));
+    IPL_S64(l11, 0u, IPL_L64(l11, 72u));
+    IPL_S64(l11, 24u, l18);
+    IPL_S8(l11, 47u, 0u);
+    IPL_S64(l11, 16u, (ipl_u64)(l16 & 255u));
+    IPL_S64(l11, 32u, IPL_L64(l11, 0u));
+    IPL_S64U(l11, 39u, IPL_L64U(l11, 7u));
+    ipl_w26_rebuild(m, (l11 + 48u), l1, l14, l7, (l11 + 16u), IPL_L64(l9, 0u), IPL_L64(l9, 8u), l8, l4, l5, l6, l10);
+    IPL_S8(l0, 0u, IPL_L8(l11, 48u));
+    IPL_S32U(l0, 4u, IPL_L8(l11, 52u));
+    IPL_S64U(l0, 8u, IPL_L64(l11, 56u));
+    IPL_S64U(l0, 16u, IPL_L64(l11, 64u));
+    goto L13;
+L15:;
+    l17 = (((ipl_u64)IPL_L32(l11, 1164u) << 32) | (ipl_u64)l16);
+    l16 = IPL_L8(l11, 1156u);
+    l12 = IPL_L64(l11, 1168u);
+L14:;
+    IPL_FILL((l10 + 7680u), 0u, (ipl_u64)130u);
+    IPL_FILL((l10 + 15490u), 0u, (ipl_u64)130u);
+    IPL_S64U((l10 + 15680u), 0u, (ipl_u64)0u);
+    IPL_S64U((l10 + 15672u), 0u, (ipl_u64)0u);
+    IPL_S64U((l10 + 15664u), 0u, (ipl_u64)0u);
+    IPL_S64U((l10 + 15656u), 0u, (ipl_u64)0u);
+    IPL_S64U((l10 + 15648u), 0u, (ipl_u64)0u);
+    IPL_S64U((l10 + 15640u), 0u, (ipl_u64)0u);
+    IPL_S64U((l10 + 15632u), 0u, (ipl_u64)0u);
+    IPL_S64U((l10 + 15624u), 0u, (ipl_u64)0u);
+    IPL_S64U(l0, 16u, l12);
+    IPL_S64U(l0, 8u, l17);
+    IPL_S32U(l0, 4u, (l16 & 255u));
+    IPL_S8(l0, 0u, 1u);
+L13:;
+    IPL_G(0) = (l11 + 1200u);
+}
+
 /* ipl_store::store::Store::get::<#81e02dbab8cd6729> */
-static void ipl_w47_get(ipl_u8 *const m, ipl_u64 l0, ipl_u64 l1, ipl_u64 l2, ipl_u32 l3, ipl_u32 l4) {
+static void ipl_w48_get(ipl_u8 *const m, ipl_u64 l0, ipl_u64 l1, ipl_u64 l2, ipl_u32 l3, ipl_u32 l4) {
     ipl_u32 l6 = 0, l7 = 0, l8 = 0, l9 = 0, l10 = 0, l11 = 0, l12 = 0, l13 = 0;
     ipl_u64 l5 = 0, t1;
     IPL_ENDS
@@ -8266,7 +8468,7 @@ L5:;
     IPL_S64(l5, 40u, (ipl_u64)0u);
     IPL_S64(l5, 32u, (ipl_u64)0u);
     IPL_S64(l5, 24u, (ipl_u64)0u);
-    ipl_w48_bring(m, (l5 + 24u), l1, l2, (l4 / 960u), ((l4 >> 6) % 15u));
+    ipl_w49_bring(m, (l5 + 24u), l1, l2, (l4 / 960u), ((l4 >> 6) % 15u));
     if (IPL_L8(l5, 24u) == 0) goto L3;
     l13 = IPL_L32(l5, 44u);
     l12 = IPL_L32(l5, 40u);
@@ -8284,7 +8486,7 @@ L4:;
     l3 = 0u;
     goto L2;
 L3:;
-    ipl_w49_seen(m, l5, l1, l3, l4);
+    ipl_w50_seen(m, l5, l1, l3, l4);
     IPL_S64U(l0, 0u, (ipl_u64)0u);
     IPL_S32U(l0, 8u, IPL_L8(l5, 0u));
     l10 = 0u;
@@ -8302,7 +8504,7 @@ L2:;
 }
 
 /* page_frames::pages::Pages::bring::<#81e02dbab8cd6729> */
-static void ipl_w48_bring(ipl_u8 *const m, ipl_u64 l0, ipl_u64 l1, ipl_u64 l2, ipl_u32 l3, ipl_u32 l4) {
+static void ipl_w49_bring(ipl_u8 *const m, ipl_u64 l0, ipl_u64 l1, ipl_u64 l2, ipl_u32 l3, ipl_u32 l4) {
     ipl_u64 l5 = 0, l6 = 0, l7 = 0, l8 = 0, l9 = 0, l10 = 0, l11 = 0, l12 = 0, t1, t2;
     IPL_ENDS
     t1 = IPL_G(0);
@@ -8364,7 +8566,7 @@ L7:;
     IPL_S32U(l0, 20u, 0u);
     goto L2;
 L3:;
-    ipl_w50_fetch(m, (l5 + 8u), l1, l2, l3, l4);
+    ipl_w51_fetch(m, (l5 + 8u), l1, l2, l3, l4);
     IPL_S8(l0, 0u, IPL_L8(l5, 8u));
     IPL_S32U(l0, 4u, IPL_L8(l5, 12u));
     IPL_S64U(l0, 8u, IPL_L64(l5, 16u));
@@ -8377,7 +8579,7 @@ L1:;
 }
 
 /* ipl_store::store::Store::seen */
-static void ipl_w49_seen(ipl_u8 *const m, ipl_u64 l0, ipl_u64 l1, ipl_u32 l2, ipl_u32 l3) {
+static void ipl_w50_seen(ipl_u8 *const m, ipl_u64 l0, ipl_u64 l1, ipl_u32 l2, ipl_u32 l3) {
     ipl_u64 l4 = 0, l5 = 0, l6 = 0, l7 = 0, l8 = 0, l9 = 0, l10 = 0, t1, t2;
     IPL_ENDS
     l4 = (ipl_u64)0u;
@@ -8458,35 +8660,34 @@ L1:;
 }
 
 /* page_frames::pages::Pages::fetch::<#81e02dbab8cd6729> */
-static void ipl_w50_fetch(ipl_u8 *const m, ipl_u64 l0, ipl_u64 l1, ipl_u64 l2, ipl_u32 l3, ipl_u32 l4) {
-    ipl_u32 l9 = 0, l22 = 0, l24 = 0, l25 = 0;
-    ipl_u64 l5 = 0, l6 = 0, l7 = 0, l8 = 0, l10 = 0, l11 = 0, l12 = 0, l13 = 0, l14 = 0, l15 = 0, l16 = 0, l17 = 0, l18 = 0, l19 = 0, l20 = 0, l21 = 0;
-    ipl_u64 l23 = 0, t1, t2;
+static void ipl_w51_fetch(ipl_u8 *const m, ipl_u64 l0, ipl_u64 l1, ipl_u64 l2, ipl_u32 l3, ipl_u32 l4) {
+    ipl_u32 l9 = 0, l16 = 0, l17 = 0, l18 = 0;
+    ipl_u64 l5 = 0, l6 = 0, l7 = 0, l8 = 0, l10 = 0, l11 = 0, l12 = 0, l13 = 0, l14 = 0, l15 = 0, t1, t2;
     IPL_ENDS
     t1 = IPL_G(0);
-    l5 = (t1 - 944u);
+    l5 = (t1 - 32u);
     IPL_G(0) = l5;
     l6 = (l1 + 1544u);
     l7 = IPL_L64(l6, 0u);
-    if (l7 < IPL_L64((l1 + 2592u), 0u)) goto L11;
+    if (l7 < IPL_L64((l1 + 2592u), 0u)) goto L7;
     l8 = IPL_L64((l1 + 1528u), 0u);
     l6 = IPL_L64((l1 + 1520u), 0u);
     l9 = 1u;
     l10 = (ipl_u64)0u;
     l11 = (ipl_u64)0u;
-L12:;
+L8:;
     l6 = (l6 - 16720u);
     l7 = (0u - l8);
-L14:;
+L10:;
     l7 = (l7 + 1u);
-    if (l7 == 1u) goto L13;
+    if (l7 == 1u) goto L9;
     l8 = (l6 + 16720u);
     l12 = (l6 + 16728u);
     l6 = l12;
-    if (IPL_L8(l8, 0u) != 1u) goto L14;
+    if (IPL_L8(l8, 0u) != 1u) goto L10;
     l6 = (l12 + 16720u);
     l8 = (0u - l7);
-    if (IPL_L32(l12, 8u) != 0) goto L12;
+    if (IPL_L32(l12, 8u) != 0) goto L8;
     l6 = IPL_L64(l12, 16u);
     l9 = ((l9 | (ipl_u32)(l11 > l6)) & 1u);
     l11 = (l9 != 0 ? l6 : l11);
@@ -8494,25 +8695,25 @@ L14:;
     l6 = (l12 + 16720u);
     l8 = (0u - l7);
     l9 = 0u;
-    goto L12;
-L13:;
+    goto L8;
+L9:;
     if ((l9 & 1u) != 0) goto L1;
     l7 = (ipl_u64)0u;
-    IPL_S64(l5, 400u, (ipl_u64)0u);
-    IPL_S64(l5, 392u, (ipl_u64)0u);
-    IPL_S64(l5, 384u, (ipl_u64)0u);
+    IPL_S64(l5, 24u, (ipl_u64)0u);
+    IPL_S64(l5, 16u, (ipl_u64)0u);
+    IPL_S64(l5, 8u, (ipl_u64)0u);
     l6 = (l10 >> 32);
-    ipl_w51_write_out(m, (l5 + 384u), l1, l2, (ipl_u32)l10, (ipl_u32)l6);
-    if (IPL_L8(l5, 384u) != 0) goto L7;
-    l8 = (l1 + 1560u);
+    ipl_w52_write_out(m, (l5 + 8u), l1, l2, (ipl_u32)l10, (ipl_u32)l6);
+    if (IPL_L8(l5, 8u) != 0) goto L3;
+    l12 = (l1 + 1560u);
     l11 = (((l10 & 4294967295ull) * 15u) + l6);
     l6 = IPL_L64((l1 + 2584u), 0u);
-    if (l6 > 1u) goto L10;
+    if (l6 > 1u) goto L6;
     switch ((ipl_u32)l6) {
-    case 1u: goto L9;
+    case 1u: goto L5;
     default: goto L1;
     }
-L11:;
+L7:;
     IPL_S64(l6, 0u, (l7 + 1u));
     l6 = (l1 + 2600u);
     l7 = IPL_L64(l6, 0u);
@@ -8523,7 +8724,7 @@ L11:;
     l14 = (l13 * 16728u);
     l6 = (IPL_L64((l1 + 1520u), 0u) + l14);
     l8 = (l1 + 1528u);
-    if (l13 != IPL_L64(l8, 0u)) goto L16;
+    if (l13 != IPL_L64(l8, 0u)) goto L12;
     IPL_S64U(l6, 0u, (ipl_u64)1u);
     IPL_S64U(l6, 24u, l7);
     IPL_S64U(l6, 16u, (ipl_u64)1u);
@@ -8534,8 +8735,8 @@ L11:;
     IPL_FILL((l6 + 16233u), 0u, (ipl_u64)495u);
     l7 = (l13 + 1u);
     IPL_S64(l8, 0u, l7);
-    goto L15;
-L16:;
+    goto L11;
+L12:;
     IPL_S64U(l6, 24u, l7);
     IPL_S64U(l6, 16u, (ipl_u64)1u);
     l9 = IPL_L8(l6, 0u);
@@ -8548,101 +8749,99 @@ L16:;
     IPL_S8((l6 + 16232u), 0u, 3u);
     IPL_FILL((l6 + 16233u), 0u, (ipl_u64)495u);
     if (l9 != 0) goto L1;
-L15:;
+L11:;
     IPL_S64((l1 + 1552u), 0u, l7);
-    l10 = (l1 + 1560u);
-    l15 = (ipl_u64)l3;
-    l11 = ((l15 * 15u) + (ipl_u64)l4);
+    l11 = (l1 + 1560u);
+    l8 = (((ipl_u64)l3 * 15u) + (ipl_u64)l4);
     l6 = (ipl_u64)0u;
-    l16 = IPL_L64((l1 + 2584u), 0u);
-    if (l16 > 1u) goto L19;
-    l7 = l16;
-    switch ((ipl_u32)l16) {
-    case 1u: goto L18;
-    default: goto L17;
+    l15 = IPL_L64((l1 + 2584u), 0u);
+    if (l15 > 1u) goto L15;
+    l7 = l15;
+    switch ((ipl_u32)l15) {
+    case 1u: goto L14;
+    default: goto L13;
     }
-L19:;
-    l7 = l16;
-L20:;
-    l8 = (l7 >> 1);
-    l12 = (l8 + l6);
-    l6 = (IPL_L64((l10 + (l12 << 4)), 0u) > l11 ? l6 : l12);
-    l7 = (l7 - l8);
-    if (l7 > 1u) goto L20;
-L18:;
-    l7 = l6;
-    l8 = IPL_L64((l10 + (l6 << 4)), 0u);
-    switch ((l8 == l11 ? 1u : (l8 < l11 ? 0u : 2u))) {
-    case 1u: goto L1;
-    case 2u: goto L17;
-    default: goto L21;
-    }
-L21:;
-    l7 = (l6 + 1u);
-L17:;
-    l6 = (l10 + (l16 << 4));
-    IPL_S64U(l6, 0u, l11);
-    IPL_S64U(l6, 8u, l13);
-    l6 = (l16 + 1u);
-    IPL_S64((l1 + 2584u), 0u, l6);
-    l6 = (l6 - l7);
-    ipl_w52_rotate_left(m, (l10 + (l7 << 4)), l6, (l6 - 1u));
-    l6 = (IPL_L64((l1 + 1520u), 0u) + l14);
-    if (IPL_L8(l6, 0u) == 1u) goto L8;
-    goto L1;
-L10:;
-    l7 = (ipl_u64)0u;
-L22:;
-    l12 = (l6 >> 1);
-    l10 = (l12 + l7);
-    l7 = (IPL_L64((l8 + (l10 << 4)), 0u) > l11 ? l7 : l10);
-    l6 = (l6 - l12);
-    if (l6 > 1u) goto L22;
-    l7 = (l7 << 4);
-L9:;
-    l6 = (l8 + l7);
-    if (IPL_L64(l6, 0u) != l11) goto L1;
-    l13 = IPL_L64(l6, 8u);
-    ipl_w53_remove(m, l8, l11);
-    l15 = (ipl_u64)l3;
-    l11 = ((l15 * 15u) + (ipl_u64)l4);
-    l6 = (ipl_u64)0u;
-    l16 = IPL_L64((l1 + 2584u), 0u);
-    if (l16 > 1u) goto L25;
-    l7 = l16;
-    switch ((ipl_u32)l16) {
-    case 1u: goto L24;
-    default: goto L23;
-    }
-L25:;
-    l7 = l16;
-L26:;
+L15:;
+    l7 = l15;
+L16:;
     l12 = (l7 >> 1);
     l10 = (l12 + l6);
-    l6 = (IPL_L64((l8 + (l10 << 4)), 0u) > l11 ? l6 : l10);
+    l6 = (IPL_L64((l11 + (l10 << 4)), 0u) > l8 ? l6 : l10);
     l7 = (l7 - l12);
-    if (l7 > 1u) goto L26;
-L24:;
+    if (l7 > 1u) goto L16;
+L14:;
     l7 = l6;
-    l12 = IPL_L64((l8 + (l6 << 4)), 0u);
-    switch ((l12 == l11 ? 1u : (l12 < l11 ? 0u : 2u))) {
+    l12 = IPL_L64((l11 + (l6 << 4)), 0u);
+    switch ((l12 == l8 ? 1u : (l12 < l8 ? 0u : 2u))) {
     case 1u: goto L1;
-    case 2u: goto L23;
-    default: goto L27;
+    case 2u: goto L13;
+    default: goto L17;
     }
-L27:;
+L17:;
     l7 = (l6 + 1u);
-L23:;
-    l6 = (l8 + (l16 << 4));
-    IPL_S64U(l6, 0u, l11);
+L13:;
+    l6 = (l11 + (l15 << 4));
+    IPL_S64U(l6, 0u, l8);
     IPL_S64U(l6, 8u, l13);
-    l6 = (l16 + 1u);
+    l6 = (l15 + 1u);
     IPL_S64((l1 + 2584u), 0u, l6);
     l6 = (l6 - l7);
-    ipl_w52_rotate_left(m, (l8 + (l7 << 4)), l6, (l6 - 1u));
-    l8 = (l1 + 1520u);
-    l12 = (l13 * 16728u);
-    l6 = (IPL_L64(l8, 0u) + l12);
+    ipl_w53_rotate_left(m, (l11 + (l7 << 4)), l6, (l6 - 1u));
+    l6 = (IPL_L64((l1 + 1520u), 0u) + l14);
+    if (IPL_L8(l6, 0u) == 1u) goto L4;
+    goto L1;
+L6:;
+    l7 = (ipl_u64)0u;
+L18:;
+    l8 = (l6 >> 1);
+    l10 = (l8 + l7);
+    l7 = (IPL_L64((l12 + (l10 << 4)), 0u) > l11 ? l7 : l10);
+    l6 = (l6 - l8);
+    if (l6 > 1u) goto L18;
+    l7 = (l7 << 4);
+L5:;
+    l6 = (l12 + l7);
+    if (IPL_L64(l6, 0u) != l11) goto L1;
+    l13 = IPL_L64(l6, 8u);
+    ipl_w54_remove(m, l12, l11);
+    l8 = (((ipl_u64)l3 * 15u) + (ipl_u64)l4);
+    l6 = (ipl_u64)0u;
+    l15 = IPL_L64((l1 + 2584u), 0u);
+    if (l15 > 1u) goto L21;
+    l7 = l15;
+    switch ((ipl_u32)l15) {
+    case 1u: goto L20;
+    default: goto L19;
+    }
+L21:;
+    l7 = l15;
+L22:;
+    l10 = (l7 >> 1);
+    l11 = (l10 + l6);
+    l6 = (IPL_L64((l12 + (l11 << 4)), 0u) > l8 ? l6 : l11);
+    l7 = (l7 - l10);
+    if (l7 > 1u) goto L22;
+L20:;
+    l7 = l6;
+    l10 = IPL_L64((l12 + (l6 << 4)), 0u);
+    switch ((l10 == l8 ? 1u : (l10 < l8 ? 0u : 2u))) {
+    case 1u: goto L1;
+    case 2u: goto L19;
+    default: goto L23;
+    }
+L23:;
+    l7 = (l6 + 1u);
+L19:;
+    l6 = (l12 + (l15 << 4));
+    IPL_S64U(l6, 0u, l8);
+    IPL_S64U(l6, 8u, l13);
+    l6 = (l15 + 1u);
+    IPL_S64((l1 + 2584u), 0u, l6);
+    l6 = (l6 - l7);
+    ipl_w53_rotate_left(m, (l12 + (l7 << 4)), l6, (l6 - 1u));
+    l12 = (l1 + 1520u);
+    l10 = (l13 * 16728u);
+    l6 = (IPL_L64(l12, 0u) + l10);
     if (IPL_L8(l6, 0u) != 1u) goto L1;
     l7 = (l1 + 2600u);
     IPL_S64(l6, 24u, IPL_L64(l7, 0u));
@@ -8661,12 +8860,51 @@ L23:;
     IPL_S64U((l6 + 15656u), 0u, (ipl_u64)0u);
     l6 = (IPL_L64(l7, 0u) + 1u);
     IPL_S64(l7, 0u, (l6 == 0 ? 18446744073709551615ull : l6));
-    l6 = (IPL_L64(l8, 0u) + l12);
+    l6 = (IPL_L64(l12, 0u) + l10);
     if (IPL_L8(l6, 0u) != 1u) goto L1;
-L8:;
+L4:;
     l6 = (l6 + 16u);
     IPL_S32(l6, 0u, (IPL_L32(l6, 0u) + (ipl_u32)4294967295u));
-    l13 = (l1 + 1560u);
+    l7 = (ipl_u64)0u;
+    IPL_S64(l5, 24u, (ipl_u64)0u);
+    IPL_S64(l5, 16u, (ipl_u64)0u);
+    IPL_S64(l5, 8u, (ipl_u64)0u);
+    l11 = (l1 + 1560u);
+    l6 = IPL_L64((l1 + 2584u), 0u);
+    if (l6 > 1u) goto L25;
+    switch ((ipl_u32)l6) {
+    case 1u: goto L24;
+    default: goto L1;
+    }
+L25:;
+    l7 = (ipl_u64)0u;
+L26:;
+    l12 = (l6 >> 1);
+    l10 = (l12 + l7);
+    l7 = (IPL_L64((l11 + (l10 << 4)), 0u) > l8 ? l7 : l10);
+    l6 = (l6 - l12);
+    if (l6 > 1u) goto L26;
+    l7 = (l7 << 4);
+L24:;
+    l6 = (l11 + l7);
+    if (IPL_L64(l6, 0u) != l8) goto L1;
+    l6 = (IPL_L64((l1 + 1520u), 0u) + (IPL_L64(l6, 8u) * 16728u));
+    if (IPL_L8(l6, 0u) != 1u) goto L1;
+    ipl_w47_load(m, (l5 + 8u), l2, l1, (l1 + 456u), (l1 + 552u), (l1 + 616u), IPL_L64((l1 + 872u), 0u), l3, l4, (l1 + 928u), (l6 + 32u));
+    l4 = IPL_L8(l5, 8u);
+    if (l4 != 0) goto L27;
+    l3 = 0u;
+    l9 = 0u;
+    l16 = 0u;
+    l17 = 0u;
+    l18 = 0u;
+    goto L2;
+L27:;
+    l18 = IPL_L32(l5, 28u);
+    l17 = IPL_L32(l5, 24u);
+    l16 = IPL_L32(l5, 20u);
+    l9 = IPL_L32(l5, 16u);
+    l3 = IPL_L8(l5, 12u);
     l6 = IPL_L64((l1 + 2584u), 0u);
     if (l6 > 1u) goto L29;
     l7 = (ipl_u64)0u;
@@ -8677,272 +8915,51 @@ L8:;
 L29:;
     l7 = (ipl_u64)0u;
 L30:;
-    l8 = (l6 >> 1);
-    l12 = (l8 + l7);
-    l7 = (IPL_L64((l13 + (l12 << 4)), 0u) > l11 ? l7 : l12);
-    l6 = (l6 - l8);
+    l12 = (l6 >> 1);
+    l10 = (l12 + l7);
+    l7 = (IPL_L64((l11 + (l10 << 4)), 0u) > l8 ? l7 : l10);
+    l6 = (l6 - l12);
     if (l6 > 1u) goto L30;
     l7 = (l7 << 4);
 L28:;
-    l6 = (l13 + l7);
-    if (IPL_L64(l6, 0u) != l11) goto L1;
-    l17 = (IPL_L64((l1 + 1520u), 0u) + (IPL_L64(l6, 8u) * 16728u));
-    if (IPL_L8(l17, 0u) != 1u) goto L1;
-    l18 = (l1 + 928u);
-    l19 = (l1 + 616u);
-    l20 = (l1 + 552u);
-    l21 = IPL_L64((l1 + 872u), 0u);
-    l7 = (ipl_u64)0u;
-    IPL_S64(l5, 48u, (ipl_u64)0u);
-    IPL_S64(l5, 56u, (ipl_u64)0u);
-    IPL_S64(l5, 64u, (ipl_u64)0u);
-    IPL_S64(l5, 16u, (ipl_u64)0u);
-    IPL_S64(l5, 24u, (ipl_u64)0u);
-    IPL_S64(l5, 32u, (ipl_u64)0u);
-    IPL_S64(l5, 40u, (ipl_u64)0u);
-    IPL_S64(l5, 0u, (ipl_u64)0u);
-    IPL_S64U(l5, 7u, (ipl_u64)0u);
-    l22 = IPL_L32((IPL_L64(l1, 0u) + (l15 << 2)), 0u);
-    IPL_S64U(l5, 79u, (ipl_u64)0u);
-    IPL_S64(l5, 72u, (ipl_u64)0u);
-    IPL_FILL((l5 + 88u), 0u, (ipl_u64)256u);
-    l12 = (IPL_L64((l1 + 424u), 0u) + (l15 * 30u));
-    l9 = (1u << ((l4 & 65535u) & 31u));
-    l23 = (ipl_u64)l22;
-    l8 = (l23 | 1035087118336ull);
-    l6 = (ipl_u64)0u;
-L31:;
-    if ((l9 & IPL_L16((l12 + l6), 0u)) == 0) goto L32;
-    IPL_S64(((l5 + 88u) + (l7 << 3)), 0u, l8);
-    l7 = (l7 + 1u);
-    IPL_S64(l5, 336u, l7);
-L32:;
-    l8 = (l8 + 4294967296ull);
-    l6 = (l6 + 2u);
-    if (l6 != 30u) goto L31;
-    l10 = IPL_L64((l1 + 464u), 0u);
-    l16 = (ipl_u64)IPL_L8((l10 + l15), 0u);
-    if (l16 == 0) goto L33;
-    l6 = (ipl_u64)0u;
-    l12 = (ipl_u64)0u;
-    if (l3 == 0) goto L34;
-    l8 = l10;
-    l14 = l15;
-    l12 = (ipl_u64)0u;
-L35:;
-    l12 = (l12 + (ipl_u64)IPL_L8(l8, 0u));
-    l8 = (l8 + 1u);
-    l14 = (l14 - 1u);
-    if (l14 != 0u) goto L35;
-L34:;
-    l14 = IPL_L64((l1 + 496u), 0u);
-    IPL_FILL((l5 + 384u), 0u, (ipl_u64)128u);
-    l8 = (l14 + (l12 * 6u));
-    l12 = (l5 + 384u);
-L36:;
-    IPL_S64(l12, 0u, (((ipl_u64)IPL_L16U(l8, 2u) << 32) | (ipl_u64)IPL_L16U(l8, 0u)));
-    l6 = (l6 + 1u);
-    IPL_S64(l5, 512u, l6);
-    l8 = (l8 + 6u);
-    l12 = (l12 + 8u);
-    if (l16 != l6) goto L36;
-    l8 = (ipl_u64)0u;
-    l12 = (ipl_u64)0u;
-    if (l3 == 0) goto L37;
-    l12 = (ipl_u64)0u;
-L38:;
-    l12 = (l12 + (ipl_u64)IPL_L8(l10, 0u));
-    l10 = (l10 + 1u);
-    l15 = (l15 - 1u);
-    if (l15 != 0u) goto L38;
-L37:;
-    IPL_S64(l5, 368u, (ipl_u64)0u);
-    IPL_S64(l5, 360u, (ipl_u64)0u);
-    IPL_S64(l5, 352u, (ipl_u64)0u);
-    IPL_S64(l5, 344u, (ipl_u64)0u);
-    l12 = (((l12 * 6u) + l14) + 4u);
-    l10 = (l5 + 344u);
-L39:;
-    IPL_S16(l10, 0u, IPL_L16(l12, 0u));
-    l8 = (l8 + 1u);
-    IPL_S64(l5, 376u, l8);
-    l12 = (l12 + 6u);
-    l10 = (l10 + 2u);
-    if (l16 != l8) goto L39;
-    l12 = (l5 + 384u);
-    l8 = (l5 + 344u);
-L40:;
-    if ((l9 & IPL_L16(l8, 0u)) == 0) goto L41;
-    IPL_S64(((l5 + 88u) + (l7 << 3)), 0u, IPL_L64(l12, 0u));
-    l7 = (l7 + 1u);
-    IPL_S64(l5, 336u, l7);
-L41:;
-    l8 = (l8 + 2u);
-    l12 = (l12 + 8u);
-    l6 = (l6 - 1u);
-    if (l6 != 0u) goto L40;
-L33:;
-    l6 = (l1 + 936u);
-    if (IPL_L64(l6, 0u) == 0) goto L42;
-    IPL_S64(l6, 0u, (ipl_u64)0u);
-L42:;
-    IPL_FILL((l5 + 384u), 0u, (ipl_u64)512u);
-    IPL_S64(l5, 936u, (ipl_u64)0u);
-    IPL_S64(l5, 928u, (ipl_u64)0u);
-    IPL_S64(l5, 920u, (ipl_u64)0u);
-    IPL_S64(l5, 912u, (ipl_u64)0u);
-    IPL_S64(l5, 904u, (ipl_u64)0u);
-    IPL_S64(l5, 896u, (ipl_u64)0u);
-    ipl_w15_read_found(m, (l5 + 896u), l2, l22, 0u, (l5 + 384u));
-    l9 = IPL_L32(l5, 904u);
-    if (IPL_L8(l5, 896u) != 0) goto L6;
-    if ((l9 & 255u) != 2u) goto L44;
-    l9 = IPL_L32(l5, 912u);
-    if (((l9 + (ipl_u32)4294967292u) & 255u) < 253u) goto L44;
-    if ((l9 & 255u) != 1u) goto L44;
-    if (IPL_L32(l5, 916u) != l3) goto L44;
-    l24 = (l9 >> 8);
-    if (IPL_L64(l5, 936u) != ((l24 & 255u) < 3u ? (ipl_u64)20u : (ipl_u64)24u)) goto L44;
-    l16 = (l17 + 32u);
-    l12 = IPL_L64(l5, 920u);
-    IPL_S64U(l5, 903u, IPL_L64U(l5, 427u));
-    IPL_S64(l5, 896u, IPL_L64U(l5, 420u));
-    l10 = (l5 + 420u);
-    l6 = (ipl_u64)0u;
-L46:;
-    if (l6 == 15u) goto L45;
-    l8 = ((l5 + 896u) + l6);
-    l6 = (l6 + 1u);
-    if (IPL_L8(l8, 0u) < 17u) goto L46;
-    goto L44;
-L45:;
-    if (IPL_L8(l5, 435u) < 13u) goto L43;
-L44:;
-    l10 = (ipl_u64)0u;
-    l9 = 3u;
-    goto L4;
-L43:;
-    IPL_S64(l5, 72u, IPL_L64U(l10, 0u));
-    IPL_S64U(l5, 79u, IPL_L64U(l10, 7u));
-    IPL_S64(l5, 400u, (ipl_u64)0u);
-    IPL_S64(l5, 392u, (ipl_u64)0u);
-    IPL_S64(l5, 384u, (ipl_u64)0u);
-    if (l7 == 0) goto L47;
-    l6 = (l5 + 88u);
-L49:;
-    ipl_w24_read_spot(m, (l5 + 384u), l2, l3, l12, IPL_L32(l6, 0u), IPL_L32(l6, 4u), l18);
-    if (IPL_L8(l5, 384u) != 0) goto L48;
-    l6 = (l6 + 8u);
-    l7 = (l7 - 1u);
-    if (l7 == 0) goto L47;
-    goto L49;
-L48:;
-    l9 = IPL_L8(l5, 388u);
-    l23 = IPL_L64(l5, 392u);
-    l10 = IPL_L64(l5, 400u);
-    goto L4;
-L47:;
-    IPL_S64U(l5, 7u, IPL_L64U(l5, 79u));
-    IPL_S64(l5, 0u, IPL_L64(l5, 72u));
-    IPL_S64(l5, 24u, l12);
-    l9 = 0u;
-    IPL_S8(l5, 47u, 0u);
-    IPL_S64(l5, 16u, (ipl_u64)(l24 & 255u));
-    IPL_S64(l5, 32u, IPL_L64(l5, 0u));
-    IPL_S64U(l5, 39u, IPL_L64U(l5, 7u));
-    ipl_w26_rebuild(m, (l5 + 48u), l2, l22, l3, (l5 + 16u), IPL_L64((l1 + 928u), 0u), IPL_L64((l1 + 936u), 0u), l4, l20, l19, l21, l16);
-    l3 = IPL_L8(l5, 48u);
-    if (l3 == 0) goto L5;
-    l10 = IPL_L64(l5, 64u);
-    l4 = IPL_L32(l5, 60u);
-    l22 = IPL_L32(l5, 56u);
-    l9 = IPL_L8(l5, 52u);
-    goto L3;
-L7:;
-    l9 = IPL_L8(l5, 388u);
-    l22 = IPL_L32(l5, 392u);
-    l4 = IPL_L32(l5, 396u);
-    l25 = IPL_L32(l5, 400u);
-    l24 = IPL_L32(l5, 404u);
-    l3 = 1u;
-    goto L2;
-L6:;
-    l23 = (((ipl_u64)IPL_L32(l5, 908u) << 32) | (ipl_u64)l9);
-    l9 = IPL_L8(l5, 900u);
-    l10 = IPL_L64(l5, 912u);
-    goto L4;
-L5:;
-    l3 = 0u;
-    l22 = 0u;
-    l4 = 0u;
-    l25 = 0u;
-    l24 = 0u;
-    goto L2;
-L4:;
-    IPL_FILL((l17 + 7712u), 0u, (ipl_u64)130u);
-    IPL_FILL((l17 + 15522u), 0u, (ipl_u64)130u);
-    IPL_S64U((l17 + 15712u), 0u, (ipl_u64)0u);
-    IPL_S64U((l17 + 15704u), 0u, (ipl_u64)0u);
-    IPL_S64U((l17 + 15696u), 0u, (ipl_u64)0u);
-    IPL_S64U((l17 + 15688u), 0u, (ipl_u64)0u);
-    IPL_S64U((l17 + 15680u), 0u, (ipl_u64)0u);
-    IPL_S64U((l17 + 15672u), 0u, (ipl_u64)0u);
-    IPL_S64U((l17 + 15664u), 0u, (ipl_u64)0u);
-    IPL_S64U((l17 + 15656u), 0u, (ipl_u64)0u);
-    l4 = (ipl_u32)(l23 >> 32);
-    l22 = (ipl_u32)l23;
-    l3 = 1u;
-L3:;
-    l6 = IPL_L64((l1 + 2584u), 0u);
-    if (l6 > 1u) goto L51;
-    l7 = (ipl_u64)0u;
-    switch ((ipl_u32)l6) {
-    case 1u: goto L50;
-    default: goto L1;
-    }
-L51:;
-    l7 = (ipl_u64)0u;
-L52:;
-    l8 = (l6 >> 1);
-    l12 = (l8 + l7);
-    l7 = (IPL_L64((l13 + (l12 << 4)), 0u) > l11 ? l7 : l12);
-    l6 = (l6 - l8);
-    if (l6 > 1u) goto L52;
-    l7 = (l7 << 4);
-L50:;
-    l6 = (l13 + l7);
-    if (IPL_L64(l6, 0u) != l11) goto L1;
-    l7 = (l10 >> 32);
+    l6 = (l11 + l7);
+    if (IPL_L64(l6, 0u) != l8) goto L1;
     l6 = IPL_L64(l6, 8u);
-    if (l6 >= IPL_L64((l1 + 1528u), 0u)) goto L53;
-    l8 = (IPL_L64((l1 + 1520u), 0u) + (l6 * 16728u));
-    if (IPL_L8(l8, 0u) != 1u) goto L53;
+    if (l6 >= IPL_L64((l1 + 1528u), 0u)) goto L31;
+    l7 = (IPL_L64((l1 + 1520u), 0u) + (l6 * 16728u));
+    if (IPL_L8(l7, 0u) != 1u) goto L31;
     l12 = (l1 + 1552u);
-    IPL_S64U(l8, 8u, IPL_L64(l12, 0u));
-    IPL_S64U(l8, 0u, (ipl_u64)0u);
-    IPL_FILL((l8 + 16u), 0u, (ipl_u64)16712u);
+    IPL_S64U(l7, 8u, IPL_L64(l12, 0u));
+    IPL_S64U(l7, 0u, (ipl_u64)0u);
+    IPL_FILL((l7 + 16u), 0u, (ipl_u64)16712u);
     IPL_S64(l12, 0u, l6);
     l6 = (l1 + 1544u);
     IPL_S64(l6, 0u, (IPL_L64(l6, 0u) - 1u));
-L53:;
-    l24 = (ipl_u32)l7;
-    l25 = (ipl_u32)l10;
-    ipl_w53_remove(m, l13, l11);
+L31:;
+    ipl_w54_remove(m, l11, l8);
+    goto L2;
+L3:;
+    l3 = IPL_L8(l5, 12u);
+    l9 = IPL_L32(l5, 16u);
+    l16 = IPL_L32(l5, 20u);
+    l17 = IPL_L32(l5, 24u);
+    l18 = IPL_L32(l5, 28u);
+    l4 = 1u;
 L2:;
-    IPL_S8(l0, 0u, l3);
-    IPL_S32U(l0, 20u, l24);
-    IPL_S32U(l0, 16u, l25);
-    IPL_S32U(l0, 12u, l4);
-    IPL_S32U(l0, 8u, l22);
-    IPL_S32U(l0, 4u, (l9 & 255u));
-    IPL_G(0) = (l5 + 944u);
+    IPL_S8(l0, 0u, l4);
+    IPL_S32U(l0, 20u, l18);
+    IPL_S32U(l0, 16u, l17);
+    IPL_S32U(l0, 12u, l16);
+    IPL_S32U(l0, 8u, l9);
+    IPL_S32U(l0, 4u, (l3 & 255u));
+    IPL_G(0) = (l5 + 32u);
     return;
 L1:;
     ipl_trap(m);
 }
 
 /* page_frames::pages::Pages::write_out::<#81e02dbab8cd6729> */
-static void ipl_w51_write_out(ipl_u8 *const m, ipl_u64 l0, ipl_u64 l1, ipl_u64 l2, ipl_u32 l3, ipl_u32 l4) {
+static void ipl_w52_write_out(ipl_u8 *const m, ipl_u64 l0, ipl_u64 l1, ipl_u64 l2, ipl_u32 l3, ipl_u32 l4) {
     ipl_u32 l15 = 0, l16 = 0, l17 = 0, l18 = 0, l19 = 0, l20 = 0, t2, t3, t5, t6, t7, t10;
     ipl_u64 l5 = 0, l6 = 0, l7 = 0, l8 = 0, l9 = 0, l10 = 0, l11 = 0, l12 = 0, l13 = 0, l14 = 0, l21 = 0, t1, t4, t8, t9, t11;
     IPL_ENDS
@@ -9200,7 +9217,7 @@ L19:;
     l11 = IPL_L64(l5, 992u);
     IPL_FILL((l5 + 1528u), 0u, (ipl_u64)520u);
     l12 = (l5 + 512u);
-    ipl_w18_record_at(m, (l5 + 1528u), l12, l11, l15);
+    ipl_w13_record_at(m, (l5 + 1528u), l12, l11, l15);
     l14 = (l10 >> 32);
     l16 = (ipl_u32)l14;
     l18 = (ipl_u32)l10;
@@ -9212,7 +9229,7 @@ L35:;
     l10 = IPL_L64(l5, 2040u);
     l11 = IPL_L64(l5, 2032u);
     IPL_FILL((l5 + 1528u), 0u, (ipl_u64)520u);
-    ipl_w18_record_at(m, (l5 + 1528u), l11, l10, l15);
+    ipl_w13_record_at(m, (l5 + 1528u), l11, l10, l15);
     l4 = ((1u << (l17 & 31u)) | l4);
     if (IPL_L8(l5, 1528u) == 1u) goto L35;
 L34:;
@@ -9242,7 +9259,7 @@ L18:;
     l3 = (ipl_u32)(l10 >> 32);
     goto L14;
 L17:;
-    ipl_w19_add(m, (l1 + 456u), l3, l18, l16, l4);
+    ipl_w14_add(m, (l1 + 456u), l3, l18, l16, l4);
 L16:;
     IPL_S8(l5, 504u, 3u);
     IPL_FILL(l9, 0u, (ipl_u64)495u);
@@ -9300,7 +9317,7 @@ L1:;
 }
 
 /* core::slice::edits::slice+T::rotate_left::<14'(,)::<i64,i64>> */
-static void ipl_w52_rotate_left(ipl_u8 *const m, ipl_u64 l0, ipl_u64 l1, ipl_u64 l2) {
+static void ipl_w53_rotate_left(ipl_u8 *const m, ipl_u64 l0, ipl_u64 l1, ipl_u64 l2) {
     ipl_u32 l9 = 0;
     ipl_u64 l3 = 0, l4 = 0, l5 = 0, l6 = 0, l7 = 0, l8 = 0, l10 = 0, l11 = 0, l12 = 0, l13 = 0, l14 = 0, t1;
     IPL_ENDS
@@ -9368,7 +9385,7 @@ L7:;
 L13:;
     l7 = (l1 + l2);
     l6 = (l8 < l2 ? l8 : l2);
-    ipl_w54_swap_with_slice(m, (l0 + ((l7 - l6) << 4)), l6, (l0 + (l7 << 4)));
+    ipl_w55_swap_with_slice(m, (l0 + ((l7 - l6) << 4)), l6, (l0 + (l7 << 4)));
     l9 = (ipl_u32)(l2 > l8);
     l7 = (l9 != 0 ? (ipl_u64)0u : l6);
     l1 = (l7 + l1);
@@ -9413,11 +9430,11 @@ L15:;
     if (l10 > 1u) goto L14;
     goto L9;
 L11:;
-    ipl_w55_turn_through_room(m, l0, l1, l2, l6);
+    ipl_w56_turn_through_room(m, l0, l1, l2, l6);
     goto L1;
 L10:;
     l6 = (l2 >> 1);
-    ipl_w56_mirror(m, l0, l1, (l0 + ((l4 - l6) << 4)), l6);
+    ipl_w57_mirror(m, l0, l1, (l0 + ((l4 - l6) << 4)), l6);
 L9:;
     l14 = (l4 + l8);
     if (l8 > 15u) goto L18;
@@ -9455,7 +9472,7 @@ L20:;
     goto L17;
 L18:;
     l6 = (l8 >> 1);
-    ipl_w56_mirror(m, l0, l4, (l0 + ((l14 - l6) << 4)), l6);
+    ipl_w57_mirror(m, l0, l4, (l0 + ((l14 - l6) << 4)), l6);
 L17:;
     l7 = (l14 - l1);
     if (l7 > 15u) goto L22;
@@ -9492,13 +9509,13 @@ L24:;
     goto L1;
 L22:;
     l2 = (l7 >> 1);
-    ipl_w56_mirror(m, l0, l1, (l0 + ((l14 - l2) << 4)), l2);
+    ipl_w57_mirror(m, l0, l1, (l0 + ((l14 - l2) << 4)), l2);
 L1:;
     IPL_G(0) = (l3 + 96u);
 }
 
 /* buffer_pool::index::PageIndex::remove */
-static void ipl_w53_remove(ipl_u8 *const m, ipl_u64 l0, ipl_u64 l1) {
+static void ipl_w54_remove(ipl_u8 *const m, ipl_u64 l0, ipl_u64 l1) {
     ipl_u64 l2 = 0, l3 = 0, l4 = 0, l5 = 0, l6 = 0, l7 = 0, l8 = 0;
     IPL_ENDS
     l2 = (ipl_u64)0u;
@@ -9563,7 +9580,7 @@ L1:;
 }
 
 /* core::slice::edits::slice+T::swap_with_slice::<14'(,)::<i64,i64>> */
-static void ipl_w54_swap_with_slice(ipl_u8 *const m, ipl_u64 l0, ipl_u64 l1, ipl_u64 l2) {
+static void ipl_w55_swap_with_slice(ipl_u8 *const m, ipl_u64 l0, ipl_u64 l1, ipl_u64 l2) {
     ipl_u64 l3 = 0, l4 = 0, l5 = 0;
     IPL_ENDS
     if (l1 == 0) goto L1;
@@ -9583,7 +9600,7 @@ L1:;
 }
 
 /* core::slice::edits::turn_through_room::<14'(,)::<i64,i64>> */
-static void ipl_w55_turn_through_room(ipl_u8 *const m, ipl_u64 l0, ipl_u64 l1, ipl_u64 l2, ipl_u64 l3) {
+static void ipl_w56_turn_through_room(ipl_u8 *const m, ipl_u64 l0, ipl_u64 l1, ipl_u64 l2, ipl_u64 l3) {
     ipl_u64 l4 = 0, l5 = 0, l6 = 0, l7 = 0, l8 = 0, l9 = 0, l10 = 0, l11 = 0, t1;
     IPL_ENDS
     t1 = IPL_G(0);
@@ -9742,7 +9759,7 @@ L1:;
 }
 
 /* core::slice::edits::mirror::<14'(,)::<i64,i64>> */
-static void ipl_w56_mirror(ipl_u8 *const m, ipl_u64 l0, ipl_u64 l1, ipl_u64 l2, ipl_u64 l3) {
+static void ipl_w57_mirror(ipl_u8 *const m, ipl_u64 l0, ipl_u64 l1, ipl_u64 l2, ipl_u64 l3) {
     ipl_u64 l4 = 0, l5 = 0;
     IPL_ENDS
     l1 = (l0 + (l1 << 4));
@@ -9762,7 +9779,7 @@ L1:;
 }
 
 /* ipl_store::store::Store::share::<#81e02dbab8cd6729> */
-static void ipl_w57_share(ipl_u8 *const m, ipl_u64 l0, ipl_u64 l1, ipl_u64 l2, ipl_u32 l3, ipl_u32 l4) {
+static void ipl_w58_share(ipl_u8 *const m, ipl_u64 l0, ipl_u64 l1, ipl_u64 l2, ipl_u32 l3, ipl_u32 l4) {
     ipl_u32 l6 = 0, l8 = 0, l9 = 0, l10 = 0, l11 = 0, l18 = 0, l19 = 0, l20 = 0, l21 = 0, l22 = 0;
     ipl_u64 l5 = 0, l7 = 0, l12 = 0, l13 = 0, l14 = 0, l15 = 0, l16 = 0, l17 = 0, t1;
     IPL_ENDS
@@ -9875,7 +9892,7 @@ L19:;
     IPL_S64(l5, 40u, (ipl_u64)0u);
     IPL_S64(l5, 32u, (ipl_u64)0u);
     IPL_S64(l5, 24u, (ipl_u64)0u);
-    ipl_w48_bring(m, (l5 + 24u), l1, l2, (l4 / 960u), ((l4 >> 6) % 15u));
+    ipl_w49_bring(m, (l5 + 24u), l1, l2, (l4 / 960u), ((l4 >> 6) % 15u));
     if (IPL_L8(l5, 24u) == 0) goto L20;
     l22 = IPL_L32(l5, 44u);
     l21 = IPL_L32(l5, 40u);
@@ -9957,7 +9974,7 @@ L33:;
     IPL_S32U((l7 + (l15 << 2)), 0u, l4);
     IPL_S64(l2, 0u, (l15 + 1u));
 L22:;
-    ipl_w49_seen(m, l5, l1, l3, l4);
+    ipl_w50_seen(m, l5, l1, l3, l4);
     IPL_S64U(l0, 0u, (ipl_u64)0u);
     IPL_S32U(l0, 8u, IPL_L8(l5, 0u));
     l19 = 0u;
@@ -9984,7 +10001,7 @@ L15:;
 }
 
 /* ipl_store::store::Store::reserves */
-static void ipl_w58_reserves(ipl_u8 *const m, ipl_u64 l0, ipl_u64 l1) {
+static void ipl_w59_reserves(ipl_u8 *const m, ipl_u64 l0, ipl_u64 l1) {
     ipl_u32 l5 = 0, l6 = 0, l9 = 0, l11 = 0, l12 = 0, t1, t2;
     ipl_u64 l2 = 0, l3 = 0, l4 = 0, l7 = 0, l8 = 0, l10 = 0;
     IPL_ENDS
@@ -10002,7 +10019,7 @@ L2:;
     l9 = 0u;
     l10 = (l1 + 64u);
 L3:;
-    t1 = ipl_w59_is_retired(m, l1, l9);
+    t1 = ipl_w60_is_retired(m, l1, l9);
     if (t1 != 0) goto L4;
     l11 = IPL_L32((IPL_L64(l10, 0u) + l8), 0u);
     l6 = (l11 < l6 ? l11 : l6);
@@ -10016,7 +10033,7 @@ L4:;
     l10 = (l1 + 64u);
     l9 = 0u;
 L5:;
-    t2 = ipl_w59_is_retired(m, l1, l9);
+    t2 = ipl_w60_is_retired(m, l1, l9);
     if (t2 != 0) goto L6;
     l11 = IPL_L32((IPL_L64(l10, 0u) + l8), 0u);
     l5 = (l11 > l5 ? l11 : l5);
@@ -10063,7 +10080,7 @@ L12:;
 }
 
 /* unit_directory::directory::Directory::is_retired */
-static ipl_u32 ipl_w59_is_retired(ipl_u8 *const m, ipl_u64 l0, ipl_u32 l1) {
+static ipl_u32 ipl_w60_is_retired(ipl_u8 *const m, ipl_u64 l0, ipl_u32 l1) {
     ipl_u32 l3 = 0, l7 = 0, l8 = 0, l9 = 0;
     ipl_u64 l2 = 0, l4 = 0, l5 = 0, l6 = 0, l10 = 0;
     IPL_ENDS
@@ -10172,7 +10189,7 @@ L1:;
 }
 
 /* ipl_store::store::Store::merge::<#81e02dbab8cd6729> */
-static void ipl_w60_merge(ipl_u8 *const m, ipl_u64 l0, ipl_u64 l1, ipl_u64 l2, ipl_u32 l3) {
+static void ipl_w61_merge(ipl_u8 *const m, ipl_u64 l0, ipl_u64 l1, ipl_u64 l2, ipl_u32 l3) {
     ipl_u32 l5 = 0, l6 = 0, l7 = 0, l8 = 0, l9 = 0, l10 = 0, l12 = 0;
     ipl_u64 l4 = 0, l11 = 0, t1;
     IPL_ENDS
@@ -10261,7 +10278,7 @@ L1:;
 }
 
 /* ipl_store::store::Store::close::<#81e02dbab8cd6729> */
-static void ipl_w61_close(ipl_u8 *const m, ipl_u64 l0, ipl_u64 l1, ipl_u64 l2) {
+static void ipl_w62_close(ipl_u8 *const m, ipl_u64 l0, ipl_u64 l1, ipl_u64 l2) {
     ipl_u32 l4 = 0, l6 = 0, l7 = 0, l8 = 0, l10 = 0, l11 = 0, l12 = 0, t2, t4, t5;
     ipl_u64 l3 = 0, l5 = 0, l9 = 0, l13 = 0, l14 = 0, t1, t3, t6, t7;
     IPL_ENDS
@@ -10414,7 +10431,7 @@ L6:;
 }
 
 /* ipl_store::store::Store::put::<#81e02dbab8cd6729> */
-static void ipl_w62_put(ipl_u8 *const m, ipl_u64 l0, ipl_u64 l1, ipl_u64 l2, ipl_u32 l3, ipl_u32 l4, ipl_u64 l5, ipl_u64 l6) {
+static void ipl_w63_put(ipl_u8 *const m, ipl_u64 l0, ipl_u64 l1, ipl_u64 l2, ipl_u32 l3, ipl_u32 l4, ipl_u64 l5, ipl_u64 l6) {
     ipl_u32 l8 = 0, l10 = 0, l11 = 0, l12 = 0, l13 = 0, l14 = 0;
     ipl_u64 l7 = 0, l9 = 0, l15 = 0, l16 = 0, l17 = 0, l18 = 0, l19 = 0, l20 = 0, l21 = 0, l22 = 0, l23 = 0, t1;
     IPL_ENDS
@@ -10446,7 +10463,7 @@ L3:;
     l12 = 0u;
     goto L1;
 L4:;
-    ipl_w63_refuses_write(m, (l7 + 984u), IPL_L64((l1 + 2608u), 0u), l9, l3, l4, ((ipl_u32)l6 + 3u));
+    ipl_w64_refuses_write(m, (l7 + 984u), IPL_L64((l1 + 2608u), 0u), l9, l3, l4, ((ipl_u32)l6 + 3u));
     l12 = IPL_L32(l7, 992u);
     l11 = IPL_L8(l7, 988u);
     l10 = IPL_L8(l7, 984u);
@@ -10488,7 +10505,7 @@ L10:;
     IPL_S64(l7, 984u, (ipl_u64)0u);
     l8 = (l4 / 960u);
     l13 = ((l4 >> 6) % 15u);
-    ipl_w48_bring(m, (l7 + 984u), l1, l2, l8, l13);
+    ipl_w49_bring(m, (l7 + 984u), l1, l2, l8, l13);
     if (IPL_L8(l7, 984u) == 0) goto L11;
     l8 = IPL_L32(l7, 1004u);
     l13 = IPL_L32(l7, 1000u);
@@ -10623,7 +10640,7 @@ L27:;
 L13:;
     IPL_S64(l7, 8u, (ipl_u64)0u);
     IPL_COPY(((l7 + 8u) + 8u), (l7 + 488u), (ipl_u64)472u);
-    ipl_w64_write(m, (l7 + 960u), l1, l2, l3, l4, (l7 + 8u));
+    ipl_w65_write(m, (l7 + 960u), l1, l2, l3, l4, (l7 + 8u));
     l8 = IPL_L8(l7, 960u);
     if (l8 != 0) goto L29;
     l13 = 0u;
@@ -10658,7 +10675,7 @@ L5:;
 }
 
 /* record_locks::sessions::Sessions::refuses_write */
-static void ipl_w63_refuses_write(ipl_u8 *const m, ipl_u64 l0, ipl_u64 l1, ipl_u64 l2, ipl_u32 l3, ipl_u32 l4, ipl_u32 l5) {
+static void ipl_w64_refuses_write(ipl_u8 *const m, ipl_u64 l0, ipl_u64 l1, ipl_u64 l2, ipl_u32 l3, ipl_u32 l4, ipl_u32 l5) {
     ipl_u32 l6 = 0, l7 = 0, l9 = 0, l13 = 0;
     ipl_u64 l8 = 0, l10 = 0, l11 = 0, l12 = 0, l14 = 0, l15 = 0, l16 = 0, l17 = 0;
     IPL_ENDS
@@ -10792,7 +10809,7 @@ L1:;
 }
 
 /* ipl_store::transactions::Transactions::write::<#81e02dbab8cd6729> */
-static void ipl_w64_write(ipl_u8 *const m, ipl_u64 l0, ipl_u64 l1, ipl_u64 l2, ipl_u32 l3, ipl_u32 l4, ipl_u64 l5) {
+static void ipl_w65_write(ipl_u8 *const m, ipl_u64 l0, ipl_u64 l1, ipl_u64 l2, ipl_u32 l3, ipl_u32 l4, ipl_u64 l5) {
     ipl_u32 l7 = 0, l8 = 0, l11 = 0, l12 = 0, t3;
     ipl_u64 l6 = 0, l9 = 0, l10 = 0, l13 = 0, l14 = 0, l15 = 0, l16 = 0, l17 = 0, l18 = 0, l19 = 0, t1, t2;
     IPL_ENDS
@@ -10844,7 +10861,7 @@ L12:;
     if (IPL_L8((l19 + (l5 * 16728u)), 0u) == 1u) goto L10;
     goto L1;
 L11:;
-    ipl_w50_fetch(m, (l6 + 504u), l1, l2, l7, l8);
+    ipl_w51_fetch(m, (l6 + 504u), l1, l2, l7, l8);
     goto L9;
 L10:;
     l5 = (ipl_u64)0u;
@@ -10894,7 +10911,7 @@ L18:;
     if (IPL_L8(l10, 0u) != 1u) goto L1;
     if (((IPL_L64((l10 + 16720u), 0u) + ((l11 & 255u) != 0 ? (ipl_u64)0u : IPL_L64(l6, 496u))) + 12u) <= 480u) goto L8;
 L17:;
-    ipl_w51_write_out(m, (l6 + 504u), l1, l2, l7, l8);
+    ipl_w52_write_out(m, (l6 + 504u), l1, l2, l7, l8);
 L9:;
     if (IPL_L8(l6, 504u) != 0) goto L7;
     l5 = IPL_L64((l1 + 2584u), 0u);
@@ -10932,7 +10949,7 @@ L21:;
     IPL_S64(l6, 504u, (ipl_u64)0u);
     IPL_S32(l6, 512u, 0u);
     l8 = (l8 != 0 ? 0u : (l7 + 3u));
-    ipl_w63_refuses_write(m, (l6 + 504u), l5, l10, l3, l4, l8);
+    ipl_w64_refuses_write(m, (l6 + 504u), l5, l10, l3, l4, l8);
     if (IPL_L8(l6, 504u) == 1u) goto L3;
     l18 = (l5 + l9);
     if (IPL_L8(l18, 0u) != 1u) goto L3;
@@ -11007,7 +11024,7 @@ L1:;
 }
 
 /* ipl_store::store::Store::del::<#81e02dbab8cd6729> */
-static void ipl_w65_del(ipl_u8 *const m, ipl_u64 l0, ipl_u64 l1, ipl_u64 l2, ipl_u32 l3, ipl_u32 l4) {
+static void ipl_w66_del(ipl_u8 *const m, ipl_u64 l0, ipl_u64 l1, ipl_u64 l2, ipl_u32 l3, ipl_u32 l4) {
     ipl_u32 l6 = 0, l7 = 0, l8 = 0, l9 = 0, l10 = 0, l12 = 0, l13 = 0, l14 = 0, l15 = 0, l16 = 0;
     ipl_u64 l5 = 0, l11 = 0, t1;
     IPL_ENDS
@@ -11031,7 +11048,7 @@ static void ipl_w65_del(ipl_u8 *const m, ipl_u64 l0, ipl_u64 l1, ipl_u64 l2, ipl
     l9 = 1u;
     l10 = 0u;
     if (IPL_L32((l1 + 2960u), 0u) <= (l4 / 960u)) goto L1;
-    ipl_w63_refuses_write(m, (l5 + 512u), IPL_L64((l1 + 2608u), 0u), l11, l3, l4, 0u);
+    ipl_w64_refuses_write(m, (l5 + 512u), IPL_L64((l1 + 2608u), 0u), l11, l3, l4, 0u);
     l10 = IPL_L32(l5, 520u);
     l9 = IPL_L8(l5, 516u);
     l8 = IPL_L8(l5, 512u);
@@ -11059,7 +11076,7 @@ L6:;
     goto L4;
 L7:;
     IPL_S64(l5, 8u, (ipl_u64)1u);
-    ipl_w64_write(m, (l5 + 488u), l1, l2, l3, l4, (l5 + 8u));
+    ipl_w65_write(m, (l5 + 488u), l1, l2, l3, l4, (l5 + 8u));
     l7 = IPL_L8(l5, 488u);
     if (l7 != 0) goto L3;
     l6 = 0u;
@@ -11092,7 +11109,7 @@ L2:;
 }
 
 /* ipl_store::transactions::Transactions::commit::<#81e02dbab8cd6729> */
-static void ipl_w66_commit(ipl_u8 *const m, ipl_u64 l0, ipl_u64 l1, ipl_u64 l2, ipl_u64 l3, ipl_u64 l4, ipl_u64 l5) {
+static void ipl_w67_commit(ipl_u8 *const m, ipl_u64 l0, ipl_u64 l1, ipl_u64 l2, ipl_u64 l3, ipl_u64 l4, ipl_u64 l5) {
     ipl_u32 l7 = 0, l14 = 0, l15 = 0, l16 = 0, l17 = 0, t2, t4, t5;
     ipl_u64 l6 = 0, l8 = 0, l9 = 0, l10 = 0, l11 = 0, l12 = 0, l13 = 0, l18 = 0, l19 = 0, l20 = 0, l21 = 0, l22 = 0, l23 = 0, l24 = 0, l25 = 0, l26 = 0;
     ipl_u64 l27 = 0, l28 = 0, l29 = 0, l30 = 0, l31 = 0, l32 = 0, l33 = 0, l34 = 0, l35 = 0, l36 = 0, l37 = 0, l38 = 0, t1, t3, t6, t7;
@@ -11124,7 +11141,7 @@ L1:;
     IPL_COPY((l6 + 264u), l6, (ipl_u64)264u);
     l13 = IPL_L64(l6, 520u);
     if (!(l13 == 0)) goto L6;
-    ipl_w67_end_all(m, l1, l4, l5);
+    ipl_w68_end_all(m, l1, l4, l5);
     IPL_S64U(l0, 4u, (ipl_u64)0u);
     IPL_S8(l0, 0u, 0u);
     IPL_S64U(l0, 12u, (ipl_u64)0u);
@@ -11182,7 +11199,7 @@ L18:;
     if (l10 == 0) goto L15;
     goto L17;
 L16:;
-    ipl_w51_write_out(m, (l6 + 1568u), l1, l2, l16, l17);
+    ipl_w52_write_out(m, (l6 + 1568u), l1, l2, l16, l17);
     if (IPL_L8(l6, 1568u) == 0) goto L13;
     l7 = IPL_L8(l6, 1572u);
     l17 = IPL_L32(l6, 1576u);
@@ -11259,7 +11276,7 @@ L23:;
     l10 = (l1 + 568u);
     l9 = (l6 + 264u);
 L25:;
-    ipl_w16_add(m, l10, IPL_L64(l9, 0u));
+    ipl_w11_add(m, l10, IPL_L64(l9, 0u));
     l9 = (l9 + 8u);
     l13 = (l13 - 1u);
     if (!(l13 == 0)) goto L25;
@@ -11430,7 +11447,7 @@ L28:;
     l21 = (l21 + 1u);
     if (l21 != l5) goto L27;
 L26:;
-    ipl_w67_end_all(m, l1, l4, l5);
+    ipl_w68_end_all(m, l1, l4, l5);
     l14 = 0u;
     goto L20;
 L24:;
@@ -11461,7 +11478,7 @@ L4:;
 }
 
 /* ipl_store::transactions::Transactions::end_all */
-static void ipl_w67_end_all(ipl_u8 *const m, ipl_u64 l0, ipl_u64 l1, ipl_u64 l2) {
+static void ipl_w68_end_all(ipl_u8 *const m, ipl_u64 l0, ipl_u64 l1, ipl_u64 l2) {
     ipl_u32 l6 = 0, l8 = 0, l9 = 0;
     ipl_u64 l3 = 0, l4 = 0, l5 = 0, l7 = 0, l10 = 0, t1;
     IPL_ENDS
@@ -11538,7 +11555,7 @@ L10:;
 }
 
 /* ipl_store::store::Store::commit_all::<#81e02dbab8cd6729> */
-static void ipl_w68_commit_all(ipl_u8 *const m, ipl_u64 l0, ipl_u64 l1, ipl_u64 l2, ipl_u64 l3, ipl_u64 l4) {
+static void ipl_w69_commit_all(ipl_u8 *const m, ipl_u64 l0, ipl_u64 l1, ipl_u64 l2, ipl_u64 l3, ipl_u64 l4) {
     ipl_u32 l8 = 0, l11 = 0, l12 = 0, l13 = 0, l14 = 0, l15 = 0, l16 = 0, l17 = 0, l18 = 0, l19 = 0, l20 = 0;
     ipl_u64 l5 = 0, l6 = 0, l7 = 0, l9 = 0, l10 = 0, t1;
     IPL_ENDS
@@ -11623,7 +11640,7 @@ L14:;
     l15 = 1u;
     goto L12;
 L15:;
-    ipl_w66_commit(m, (l5 + 8u), l1, l2, (l1 + 2640u), l3, l4);
+    ipl_w67_commit(m, (l5 + 8u), l1, l2, (l1 + 2640u), l3, l4);
     l15 = IPL_L8(l5, 8u);
     if (l15 != 0) goto L16;
     l16 = 0u;
@@ -11657,7 +11674,7 @@ L11:;
 }
 
 /* ipl_store::store::Store::abort::<#81e02dbab8cd6729> */
-static void ipl_w69_abort(ipl_u8 *const m, ipl_u64 l0, ipl_u64 l1, ipl_u32 l2) {
+static void ipl_w70_abort(ipl_u8 *const m, ipl_u64 l0, ipl_u64 l1, ipl_u32 l2) {
     ipl_u32 l5 = 0, l6 = 0, l7 = 0, l33 = 0, l34 = 0, t4, t6;
     ipl_u64 l3 = 0, l4 = 0, l8 = 0, l9 = 0, l10 = 0, l11 = 0, l12 = 0, l13 = 0, l14 = 0, l15 = 0, l16 = 0, l17 = 0, l18 = 0, l19 = 0, l20 = 0, l21 = 0;
     ipl_u64 l22 = 0, l23 = 0, l24 = 0, l25 = 0, l26 = 0, l27 = 0, l28 = 0, l29 = 0, l30 = 0, l31 = 0, l32 = 0, t1, t2, t3, t5, t7;
@@ -11768,7 +11785,7 @@ L13:;
     l29 = (l4 + 16232u);
     l2 = IPL_L8(l29, 0u);
     IPL_FILL((l3 + 1000u), 0u, (ipl_u64)520u);
-    ipl_w18_record_at(m, (l3 + 1000u), (l4 + 16240u), l8, l2);
+    ipl_w13_record_at(m, (l3 + 1000u), (l4 + 16240u), l8, l2);
     if (IPL_L8(l3, 1000u) != 1u) goto L18;
     l22 = (ipl_u64)0u;
     l8 = IPL_L64(l3, 1504u);
@@ -11934,7 +11951,7 @@ L1:;
 }
 
 /* ipl_keys::keys::Keys::look::<#81e02dbab8cd6729> */
-static void ipl_w70_look(ipl_u8 *const m, ipl_u64 l0, ipl_u64 l1, ipl_u64 l2, ipl_u32 l3, ipl_u32 l4, ipl_u64 l5) {
+static void ipl_w71_look(ipl_u8 *const m, ipl_u64 l0, ipl_u64 l1, ipl_u64 l2, ipl_u32 l3, ipl_u32 l4, ipl_u64 l5) {
     ipl_u32 l7 = 0, l8 = 0, l9 = 0, l10 = 0, l11 = 0, l12 = 0, l13 = 0;
     ipl_u64 l6 = 0, l14 = 0, l15 = 0, l16 = 0, l17 = 0, l18 = 0, l19 = 0, l20 = 0, l21 = 0, l22 = 0, l23 = 0, l24 = 0, l25 = 0, t1;
     IPL_ENDS
@@ -11977,7 +11994,7 @@ L2:;
     IPL_S64(l6, 16u, (ipl_u64)0u);
     IPL_S64(l6, 8u, (ipl_u64)0u);
     IPL_S64(l6, 0u, (ipl_u64)0u);
-    ipl_w47_get(m, l6, l1, l2, l3, l4);
+    ipl_w48_get(m, l6, l1, l2, l3, l4);
     if (IPL_L8(l6, 0u) != 0) goto L6;
     if (IPL_L8(l6, 8u) == 1u) goto L8;
     l14 = (ipl_u64)0u;
@@ -12204,6 +12221,118 @@ L1:;
     return l5;
 }
 
+/* ipl_port_look */
+static ipl_u32 ipl_w_ipl_port_look(ipl_u8 *const m, ipl_u64 l0, ipl_u64 l1, ipl_u64 l2) {
+    ipl_u32 l4 = 0, l5 = 0, l6 = 0, l7 = 0, l8 = 0, l9 = 0, l10 = 0, l11 = 0;
+    ipl_u64 l3 = 0, t1;
+    IPL_ENDS
+    t1 = IPL_G(0);
+    l3 = (t1 - 80u);
+    IPL_G(0) = l3;
+    IPL_S64U((l0 + 17208u), 0u, (ipl_u64)0u);
+    IPL_S64(l3, 72u, (l0 + 256u));
+    IPL_S64(l3, 64u, (l0 + 920u));
+    IPL_S64(l3, 56u, (l0 + 824u));
+    IPL_S64(l3, 48u, (l0 + 368u));
+    IPL_S64(l3, 40u, (l0 + 120u));
+    IPL_S64(l3, 32u, (ipl_u64)0u);
+    IPL_S64(l3, 24u, (ipl_u64)0u);
+    IPL_S64(l3, 16u, (ipl_u64)0u);
+    IPL_S64(l3, 8u, (ipl_u64)0u);
+    l4 = 0u;
+    ipl_w9_read_chip(m, (l3 + 8u), l0, IPL_L32U(l0, 48u), IPL_L64(l0, 56u), IPL_L64(l0, 64u), IPL_L64(l0, 88u), (l3 + 40u), 0u, 0u);
+    if (IPL_L8(l3, 8u) == 0) goto L1;
+    l5 = IPL_L32(l3, 16u);
+    l4 = 80u;
+    l6 = IPL_L8(l3, 12u);
+    l7 = l6;
+    l8 = l6;
+    l9 = l6;
+    switch (l6) {
+    case 1u: goto L11;
+    case 2u: goto L10;
+    case 3u: goto L9;
+    case 4u: goto L8;
+    case 5u: goto L7;
+    case 6u: goto L6;
+    default: goto L2;
+    }
+L11:;
+    l6 = 0u;
+    l4 = 81u;
+    goto L4;
+L10:;
+    l7 = 0u;
+    l4 = 83u;
+    l6 = l5;
+    goto L3;
+L9:;
+    l10 = IPL_L32(l3, 24u);
+    l11 = IPL_L32(l3, 20u);
+    l4 = 87u;
+    l6 = (l5 & 255u);
+    l7 = l6;
+    l8 = l6;
+    l9 = l6;
+    switch ((ipl_u32)((ipl_u64)l5 & 255u)) {
+    case 1u: goto L14;
+    case 2u: goto L5;
+    case 3u: goto L13;
+    case 4u: goto L12;
+    default: goto L2;
+    }
+L14:;
+    l6 = 0u;
+    l4 = 88u;
+    goto L4;
+L13:;
+    l8 = 0u;
+    l4 = 90u;
+    l6 = l11;
+    l7 = l10;
+    l9 = 0u;
+    goto L2;
+L12:;
+    l7 = 0u;
+    l4 = 91u;
+    l6 = l11;
+    goto L3;
+L8:;
+    l6 = 0u;
+    l4 = 92u;
+    goto L4;
+L7:;
+    l7 = 0u;
+    l4 = 84u;
+    l6 = l5;
+    goto L3;
+L6:;
+    l6 = 0u;
+    l4 = 93u;
+    goto L4;
+L5:;
+    l9 = IPL_L32(l3, 32u);
+    l8 = IPL_L32(l3, 28u);
+    l4 = 89u;
+    l6 = l11;
+    l7 = l10;
+    goto L2;
+L4:;
+    l7 = 0u;
+L3:;
+    l8 = 0u;
+    l9 = 0u;
+L2:;
+    IPL_S32U((l1 + 644u), 0u, l9);
+    IPL_S32U((l1 + 640u), 0u, l8);
+    IPL_S32U((l1 + 636u), 0u, l7);
+    IPL_S32U((l1 + 632u), 0u, l6);
+L1:;
+    IPL_S64(l2, 0u, l0);
+    IPL_G(0) = (l3 + 80u);
+    return l4;
+}
+
 /* ipl_port_check */
 static ipl_u32 ipl_w_ipl_port_check(ipl_u8 *const m, ipl_u64 l0, ipl_u32 l1, ipl_u64 l2) {
     ipl_u32 l4 = 0, l5 = 0, l6 = 0, l64 = 0, l65 = 0, l66 = 0, l67 = 0, l68 = 0, l69 = 0, l70 = 0;
@@ -12234,7 +12363,7 @@ static ipl_u32 ipl_w_ipl_port_check(ipl_u8 *const m, ipl_u64 l0, ipl_u32 l1, ipl
     IPL_FILL((l3 + 17792u), 0u, (ipl_u64)216u);
     IPL_FILL((l3 + 17672u), 0u, (ipl_u64)120u);
     l5 = (l1 + (ipl_u32)4294967292u);
-    ipl_w9_new(m, (l3 + 18008u), l1, l5);
+    ipl_w18_new(m, (l3 + 18008u), l1, l5);
     if (IPL_L8F(l3, 18008u) != 0) goto L4;
     l7 = (ipl_u64)(l6 < 1024u ? l5 : 0u);
     l8 = (ipl_u64)4u;
@@ -12310,7 +12439,7 @@ L13:;
     ipl_to_rattle_alloc(m, (l3 + 8u), (ipl_u64)15624u, (ipl_u64)8u);
     if (((ipl_u32)IPL_L64(l3, 8u) & 1u) == 0) goto L10;
     l37 = IPL_L64(l3, 16u);
-    ipl_w12_new(m, (l3 + 17792u), l1, l5);
+    ipl_w21_new(m, (l3 + 17792u), l1, l5);
     if (IPL_L8F(l3, 17792u) != 0) goto L9;
     l38 = IPL_L64F(l3, 18000u);
     l39 = IPL_L64F(l3, 17992u);
@@ -12338,7 +12467,7 @@ L13:;
     l61 = IPL_L64F(l3, 17816u);
     l62 = IPL_L64F(l3, 17808u);
     l63 = IPL_L64F(l3, 17800u);
-    ipl_w13_new(m, (l3 + 17672u), (ipl_u64)15300u);
+    ipl_w22_new(m, (l3 + 17672u), (ipl_u64)15300u);
     if (IPL_L8F(l3, 17672u) == 0) goto L8;
     if (l60 == 0) goto L23;
     ipl_to_rattle_dealloc(m, l62);
@@ -12537,7 +12666,7 @@ L8:;
     IPL_S64F(l3, 17808u, (ipl_u64)0u);
     IPL_S64F(l3, 17800u, (ipl_u64)0u);
     IPL_S64F(l3, 17792u, (ipl_u64)0u);
-    ipl_w14_read_chip(m, (l3 + 17792u), (l3 + 88u), IPL_L32(l3, 512u), l62, l61, l58, (l3 + 18008u), 0u, 0u);
+    ipl_w9_read_chip(m, (l3 + 17792u), (l3 + 88u), IPL_L32(l3, 512u), l62, l61, l58, (l3 + 18008u), 0u, 0u);
     if (IPL_L8F(l3, 17792u) != 0) goto L56;
     l25 = (ipl_u64)IPL_L32(l3, 840u);
     if (!(l25 == 0)) goto L57;
@@ -14826,6 +14955,579 @@ L41:;
     return l2;
 }
 
+/* ipl_port_read */
+static ipl_u32 ipl_w_ipl_port_read(ipl_u8 *const m, ipl_u64 l0, ipl_u64 l1, ipl_u64 l2) {
+    ipl_u32 l4 = 0, l5 = 0, l6 = 0, l7 = 0, l8 = 0, l11 = 0, l12 = 0;
+    ipl_u64 l3 = 0, l9 = 0, l10 = 0, t1;
+    IPL_ENDS
+    t1 = IPL_G(0);
+    l3 = (t1 - 944u);
+    IPL_G(0) = l3;
+    l4 = 0u;
+    l5 = 36u;
+    l6 = 0u;
+    l7 = 0u;
+    l8 = 0u;
+    switch ((IPL_L32(l1, 0u) + (ipl_u32)4294967292u)) {
+    case 0u: goto L5;
+    case 10u: goto L4;
+    default: goto L1;
+    }
+L5:;
+    l4 = IPL_L32(l1, 8u);
+    if ((IPL_L32((l0 + 376u), 0u) * 960u) > l4) goto L6;
+    l5 = 3u;
+    l4 = 0u;
+    goto L3;
+L6:;
+    IPL_S64(l3, 488u, (ipl_u64)0u);
+    IPL_S64(l3, 480u, (ipl_u64)0u);
+    IPL_S64(l3, 472u, (ipl_u64)0u);
+    l5 = (l4 >> 6);
+    l9 = (l0 + 17208u);
+    if (IPL_L8(l9, 0u) != 1u) goto L9;
+    if (IPL_L32((l0 + 17212u), 0u) == l5) goto L8;
+L9:;
+    IPL_S64U(l9, 0u, (ipl_u64)0u);
+    ipl_w47_load(m, (l3 + 472u), l0, (l0 + 368u), (l0 + 824u), (l0 + 920u), 1610637312ull, (ipl_u64)0u, (l4 / 960u), (l5 % 15u), (l0 + 976u), (l0 + 1008u));
+    if (IPL_L8(l3, 472u) != 0) goto L7;
+    IPL_S32U((l0 + 17212u), 0u, l5);
+    IPL_S32U((l0 + 17208u), 0u, 1u);
+L8:;
+    l5 = 1u;
+    l9 = (l0 + (ipl_u64)((l4 << 1) & 126u));
+    l4 = IPL_L16((l9 + 8688u), 0u);
+    l6 = IPL_L16((l9 + 8690u), 0u);
+    if (l4 == l6) goto L10;
+    IPL_FILL((l3 + 472u), 0u, (ipl_u64)464u);
+    l10 = ((ipl_u64)l4 + 3u);
+    l9 = ((ipl_u64)l6 - l10);
+    if (l9 > 464u) goto L10;
+    if (l9 == 0) goto L11;
+    IPL_COPY((l3 + 472u), ((l0 + l10) + 1008u), l9);
+L11:;
+    IPL_S64(l3, 936u, l9);
+    l9 = IPL_L64(l3, 472u);
+    IPL_COPY((l3 + 8u), ((l3 + 472u) + 8u), (ipl_u64)464u);
+    IPL_S64(l3, 0u, l9);
+    l9 = IPL_L64(l3, 464u);
+    if (l9 == 0) goto L12;
+    IPL_COPY((l1 + 168u), l3, l9);
+L12:;
+    IPL_S32(l1, 20u, l9);
+    l5 = 0u;
+    l4 = 0u;
+    goto L3;
+L10:;
+    l4 = 0u;
+    IPL_S32(l1, 20u, 0u);
+    goto L3;
+L7:;
+    l11 = IPL_L32(l3, 480u);
+    l12 = IPL_L32(l3, 484u);
+    l5 = 40u;
+    l4 = IPL_L8(l3, 476u);
+    l6 = l4;
+    l7 = l4;
+    l8 = l4;
+    switch (l4) {
+    case 1u: goto L16;
+    case 2u: goto L15;
+    case 3u: goto L14;
+    case 4u: goto L13;
+    default: goto L1;
+    }
+L16:;
+    l5 = 62u;
+    l4 = 0u;
+    goto L3;
+L15:;
+    l7 = IPL_L32(l3, 488u);
+    l8 = IPL_L32(l3, 492u);
+    l5 = 41u;
+    l4 = l11;
+    l6 = l12;
+    goto L1;
+L14:;
+    l5 = 42u;
+    l4 = l11;
+    l6 = l12;
+    goto L2;
+L13:;
+    l5 = 63u;
+    l4 = l11;
+    goto L3;
+L4:;
+    IPL_S32(l1, 8u, ((IPL_L32((l0 + 376u), 0u) * 960u) / 960u));
+    l4 = 0u;
+    l5 = 0u;
+L3:;
+    l6 = 0u;
+L2:;
+    l7 = 0u;
+    l8 = 0u;
+L1:;
+    IPL_S32U((l1 + 644u), 0u, l8);
+    IPL_S32U((l1 + 640u), 0u, l7);
+    IPL_S32U((l1 + 636u), 0u, l6);
+    IPL_S32U((l1 + 632u), 0u, l4);
+    IPL_S64(l2, 0u, l0);
+    IPL_G(0) = (l3 + 944u);
+    return l5;
+}
+
+/* ipl_port_make_reader */
+static ipl_u32 ipl_w_ipl_port_make_reader(ipl_u8 *const m, ipl_u64 l0, ipl_u32 l1, ipl_u64 l2, ipl_u64 l3) {
+    ipl_u32 l5 = 0, l6 = 0, l7 = 0;
+    ipl_u64 l4 = 0, l8 = 0, l9 = 0, l10 = 0, l11 = 0, l12 = 0, l13 = 0, l14 = 0, l15 = 0, l16 = 0, l17 = 0, l18 = 0, l19 = 0, l20 = 0, l21 = 0, l22 = 0;
+    ipl_u64 l23 = 0, l24 = 0, l25 = 0, l26 = 0, l27 = 0, l28 = 0, l29 = 0, l30 = 0, l31 = 0, l32 = 0, l33 = 0, l34 = 0, l35 = 0, l36 = 0, l37 = 0, l38 = 0;
+    ipl_u64 l39 = 0, l40 = 0, l41 = 0, l42 = 0, l43 = 0, l44 = 0, l45 = 0, l46 = 0, l47 = 0, l48 = 0, l49 = 0, l50 = 0, l51 = 0, l52 = 0, l53 = 0, l54 = 0;
+    ipl_u64 l55 = 0, l56 = 0, l57 = 0, l58 = 0, l59 = 0, l60 = 0, l61 = 0, l62 = 0, l63 = 0, l64 = 0, l65 = 0, l66 = 0, l67 = 0, l68 = 0, l69 = 0, t1;
+    IPL_ENDS
+    t1 = IPL_G(0);
+    l4 = (t1 - 1600u);
+    IPL_G(0) = l4;
+    IPL_FILL((l4 + 120u), 0u, (ipl_u64)264u);
+    l5 = IPL_L32(l2, 8u);
+    IPL_FILL((l4 + 384u), 0u, (ipl_u64)264u);
+    IPL_FILL((l4 + 648u), 0u, (ipl_u64)264u);
+    if ((l5 + (ipl_u32)4294951995u) >= (ipl_u32)4294952115u) goto L4;
+    l5 = 35u;
+    goto L3;
+L4:;
+    l6 = (l1 + (ipl_u32)4294967291u);
+    if (l6 <= 1023u) goto L5;
+    l5 = 80u;
+    goto L3;
+L5:;
+    IPL_FILL((l4 + 1376u), 0u, (ipl_u64)216u);
+    IPL_FILL((l4 + 912u), 0u, (ipl_u64)464u);
+    l7 = (l1 + (ipl_u32)4294967292u);
+    ipl_w21_new(m, (l4 + 1376u), l1, l7);
+    if (IPL_L8(l4, 1376u) != 0) goto L6;
+    l8 = IPL_L64(l4, 1584u);
+    l9 = IPL_L64(l4, 1576u);
+    l10 = IPL_L64(l4, 1568u);
+    l11 = IPL_L64(l4, 1560u);
+    l12 = IPL_L64(l4, 1552u);
+    l13 = IPL_L64(l4, 1544u);
+    l14 = IPL_L64(l4, 1536u);
+    l15 = IPL_L64(l4, 1528u);
+    l16 = IPL_L64(l4, 1520u);
+    l17 = IPL_L64(l4, 1512u);
+    l18 = IPL_L64(l4, 1504u);
+    l19 = IPL_L64(l4, 1496u);
+    l20 = IPL_L64(l4, 1488u);
+    l21 = IPL_L64(l4, 1480u);
+    l22 = IPL_L64(l4, 1472u);
+    l23 = IPL_L64(l4, 1464u);
+    l24 = IPL_L64(l4, 1456u);
+    l25 = IPL_L64(l4, 1448u);
+    l26 = IPL_L64(l4, 1440u);
+    l27 = IPL_L64(l4, 1432u);
+    l28 = IPL_L64(l4, 1424u);
+    l29 = IPL_L64(l4, 1416u);
+    l30 = IPL_L64(l4, 1408u);
+    l31 = IPL_L64(l4, 1400u);
+    l32 = IPL_L64(l4, 1392u);
+    l33 = IPL_L64(l4, 1384u);
+    l34 = (ipl_u64)l5;
+    l35 = ((l34 + 7u) >> 3);
+    ipl_to_rattle_alloc(m, (l4 + 104u), l35, (ipl_u64)1u);
+    if (((ipl_u32)IPL_L64(l4, 104u) & 1u) == 0) goto L9;
+    l36 = IPL_L64(l4, 112u);
+    l5 = (ipl_u32)(l35 == 0);
+    if (l5 != 0) goto L10;
+    IPL_FILL(l36, 0u, l35);
+L10:;
+    ipl_to_rattle_alloc(m, (l4 + 88u), l35, (ipl_u64)1u);
+    if (((ipl_u32)IPL_L64(l4, 88u) & 1u) != 0) goto L8;
+    ipl_to_rattle_dealloc(m, l36);
+L9:;
+    if (l30 == 0) goto L11;
+    ipl_to_rattle_dealloc(m, l32);
+L11:;
+    if (l26 == 0) goto L12;
+    ipl_to_rattle_dealloc(m, l28);
+L12:;
+    if (l22 == 0) goto L13;
+    ipl_to_rattle_dealloc(m, l24);
+L13:;
+    if (l18 == 0) goto L14;
+    ipl_to_rattle_dealloc(m, l20);
+L14:;
+    if (l14 == 0) goto L15;
+    ipl_to_rattle_dealloc(m, l16);
+L15:;
+    if (!(l10 == 0)) goto L7;
+    goto L6;
+L8:;
+    l37 = IPL_L64(l4, 96u);
+    if (l5 != 0) goto L16;
+    IPL_FILL(l37, 0u, l35);
+L16:;
+    ipl_w18_new(m, (l4 + 912u), l1, l7);
+    if (IPL_L8(l4, 912u) != 0) goto L20;
+    l38 = (ipl_u64)(l6 < 1024u ? l7 : 0u);
+    l39 = (ipl_u64)l7;
+    l40 = (l39 << 4);
+    l41 = (l40 < 510u ? l40 : (ipl_u64)510u);
+    l42 = IPL_L64(l4, 1368u);
+    l40 = IPL_L64(l4, 1360u);
+    l43 = IPL_L64(l4, 1352u);
+    l44 = IPL_L64(l4, 1344u);
+    l45 = IPL_L64(l4, 1336u);
+    l46 = IPL_L64(l4, 1328u);
+    l47 = IPL_L64(l4, 1320u);
+    l48 = IPL_L64(l4, 1312u);
+    l49 = IPL_L64(l4, 1304u);
+    l50 = IPL_L64(l4, 1296u);
+    l51 = IPL_L64(l4, 1288u);
+    l52 = IPL_L64(l4, 1280u);
+    l53 = IPL_L64(l4, 1008u);
+    l54 = IPL_L64(l4, 1000u);
+    l55 = IPL_L64(l4, 992u);
+    l56 = IPL_L64(l4, 984u);
+    l57 = IPL_L64(l4, 976u);
+    l58 = IPL_L64(l4, 968u);
+    l59 = IPL_L64(l4, 960u);
+    l60 = IPL_L64(l4, 952u);
+    l61 = IPL_L64(l4, 944u);
+    l62 = IPL_L64(l4, 936u);
+    l63 = IPL_L64(l4, 928u);
+    l64 = IPL_L64(l4, 920u);
+    if (l7 != 0) goto L22;
+    l65 = (l4 + 1598u);
+    l66 = l65;
+    goto L21;
+L22:;
+    ipl_to_rattle_alloc(m, (l4 + 72u), l39, (ipl_u64)1u);
+    if (((ipl_u32)IPL_L64(l4, 72u) & 1u) == 0) goto L18;
+    l65 = IPL_L64(l4, 80u);
+    if (l38 == 0) goto L23;
+    IPL_FILL(l65, 0u, l38);
+L23:;
+    ipl_to_rattle_alloc(m, (l4 + 56u), (l41 * 6u), (ipl_u64)2u);
+    if (((ipl_u32)IPL_L64(l4, 56u) & 1u) == 0) goto L19;
+    l66 = IPL_L64(l4, 64u);
+L21:;
+    ipl_to_rattle_alloc(m, (l4 + 40u), (l34 << 3), (ipl_u64)8u);
+    if (((ipl_u32)IPL_L64(l4, 40u) & 1u) == 0) goto L17;
+    l67 = IPL_L64(l4, 48u);
+    ipl_to_rattle_alloc(m, (l4 + 24u), (ipl_u64)15624u, (ipl_u64)8u);
+    if (((ipl_u32)IPL_L64(l4, 24u) & 1u) != 0) goto L2;
+    ipl_to_rattle_dealloc(m, l67);
+    if (l7 == 0) goto L24;
+    ipl_to_rattle_dealloc(m, l65);
+    ipl_to_rattle_dealloc(m, l66);
+L24:;
+    if (l62 == 0) goto L25;
+    ipl_to_rattle_dealloc(m, l64);
+L25:;
+    if (l58 == 0) goto L26;
+    ipl_to_rattle_dealloc(m, l60);
+L26:;
+    if (l54 == 0) goto L27;
+    ipl_to_rattle_dealloc(m, l56);
+L27:;
+    if (l50 == 0) goto L28;
+    ipl_to_rattle_dealloc(m, l52);
+L28:;
+    if (l46 == 0) goto L29;
+    ipl_to_rattle_dealloc(m, l48);
+L29:;
+    if (l40 == 0) goto L30;
+    ipl_to_rattle_dealloc(m, l44);
+L30:;
+    ipl_to_rattle_dealloc(m, l36);
+    ipl_to_rattle_dealloc(m, l37);
+    if (l30 == 0) goto L31;
+    ipl_to_rattle_dealloc(m, l32);
+L31:;
+    if (l26 == 0) goto L32;
+    ipl_to_rattle_dealloc(m, l28);
+L32:;
+    if (l22 == 0) goto L33;
+    ipl_to_rattle_dealloc(m, l24);
+L33:;
+    if (l18 == 0) goto L34;
+    ipl_to_rattle_dealloc(m, l20);
+L34:;
+    if (l14 == 0) goto L35;
+    ipl_to_rattle_dealloc(m, l16);
+L35:;
+    if (!(l10 == 0)) goto L7;
+    goto L6;
+L20:;
+    ipl_to_rattle_dealloc(m, l36);
+    ipl_to_rattle_dealloc(m, l37);
+    if (l30 == 0) goto L36;
+    ipl_to_rattle_dealloc(m, l32);
+L36:;
+    if (l26 == 0) goto L37;
+    ipl_to_rattle_dealloc(m, l28);
+L37:;
+    if (l22 == 0) goto L38;
+    ipl_to_rattle_dealloc(m, l24);
+L38:;
+    if (l18 == 0) goto L39;
+    ipl_to_rattle_dealloc(m, l20);
+L39:;
+    if (l14 == 0) goto L40;
+    ipl_to_rattle_dealloc(m, l16);
+L40:;
+    if (!(l10 == 0)) goto L7;
+    goto L6;
+L19:;
+    ipl_to_rattle_dealloc(m, l65);
+L18:;
+    if (l62 == 0) goto L41;
+    ipl_to_rattle_dealloc(m, l64);
+L41:;
+    if (l58 == 0) goto L42;
+    ipl_to_rattle_dealloc(m, l60);
+L42:;
+    if (l54 == 0) goto L43;
+    ipl_to_rattle_dealloc(m, l56);
+L43:;
+    if (l50 == 0) goto L44;
+    ipl_to_rattle_dealloc(m, l52);
+L44:;
+    if (l46 == 0) goto L45;
+    ipl_to_rattle_dealloc(m, l48);
+L45:;
+    if (l40 == 0) goto L46;
+    ipl_to_rattle_dealloc(m, l44);
+L46:;
+    ipl_to_rattle_dealloc(m, l36);
+    ipl_to_rattle_dealloc(m, l37);
+    if (l30 == 0) goto L47;
+    ipl_to_rattle_dealloc(m, l32);
+L47:;
+    if (l26 == 0) goto L48;
+    ipl_to_rattle_dealloc(m, l28);
+L48:;
+    if (l22 == 0) goto L49;
+    ipl_to_rattle_dealloc(m, l24);
+L49:;
+    if (l18 == 0) goto L50;
+    ipl_to_rattle_dealloc(m, l20);
+L50:;
+    if (l14 == 0) goto L51;
+    ipl_to_rattle_dealloc(m, l16);
+L51:;
+    if (!(l10 == 0)) goto L7;
+    goto L6;
+L17:;
+    if (l7 == 0) goto L52;
+    ipl_to_rattle_dealloc(m, l65);
+    ipl_to_rattle_dealloc(m, l66);
+L52:;
+    if (l62 == 0) goto L53;
+    ipl_to_rattle_dealloc(m, l64);
+L53:;
+    if (l58 == 0) goto L54;
+    ipl_to_rattle_dealloc(m, l60);
+L54:;
+    if (l54 == 0) goto L55;
+    ipl_to_rattle_dealloc(m, l56);
+L55:;
+    if (l50 == 0) goto L56;
+    ipl_to_rattle_dealloc(m, l52);
+L56:;
+    if (l46 == 0) goto L57;
+    ipl_to_rattle_dealloc(m, l48);
+L57:;
+    if (l40 == 0) goto L58;
+    ipl_to_rattle_dealloc(m, l44);
+L58:;
+    ipl_to_rattle_dealloc(m, l36);
+    ipl_to_rattle_dealloc(m, l37);
+    if (l30 == 0) goto L59;
+    ipl_to_rattle_dealloc(m, l32);
+L59:;
+    if (l26 == 0) goto L60;
+    ipl_to_rattle_dealloc(m, l28);
+L60:;
+    if (l22 == 0) goto L61;
+    ipl_to_rattle_dealloc(m, l24);
+L61:;
+    if (l18 == 0) goto L62;
+    ipl_to_rattle_dealloc(m, l20);
+L62:;
+    if (l14 == 0) goto L63;
+    ipl_to_rattle_dealloc(m, l16);
+L63:;
+    if (l10 == 0) goto L6;
+L7:;
+    ipl_to_rattle_dealloc(m, l12);
+L6:;
+    l5 = 85u;
+L3:;
+    IPL_S64U((l2 + 640u), 0u, (ipl_u64)0u);
+    IPL_S64U((l2 + 632u), 0u, (ipl_u64)0u);
+    goto L1;
+L2:;
+    l68 = IPL_L64(l4, 32u);
+    IPL_COPY((l4 + 648u), (l4 + 1016u), (ipl_u64)264u);
+    IPL_COPY((l4 + 384u), (l4 + 648u), (ipl_u64)264u);
+    IPL_COPY((l4 + 120u), (l4 + 384u), (ipl_u64)264u);
+    ipl_to_rattle_alloc(m, (l4 + 8u), (ipl_u64)17216u, (ipl_u64)8u);
+    if (((ipl_u32)IPL_L64(l4, 8u) & 1u) != 0) goto L64;
+    if (l30 == 0) goto L65;
+    ipl_to_rattle_dealloc(m, l32);
+L65:;
+    if (l26 == 0) goto L66;
+    ipl_to_rattle_dealloc(m, l28);
+L66:;
+    if (l22 == 0) goto L67;
+    ipl_to_rattle_dealloc(m, l24);
+L67:;
+    if (l18 == 0) goto L68;
+    ipl_to_rattle_dealloc(m, l20);
+L68:;
+    if (l14 == 0) goto L69;
+    ipl_to_rattle_dealloc(m, l16);
+L69:;
+    if (l10 == 0) goto L70;
+    ipl_to_rattle_dealloc(m, l12);
+L70:;
+    ipl_to_rattle_dealloc(m, l36);
+    ipl_to_rattle_dealloc(m, l37);
+    if (l62 == 0) goto L71;
+    ipl_to_rattle_dealloc(m, l64);
+L71:;
+    if (l58 == 0) goto L72;
+    ipl_to_rattle_dealloc(m, l60);
+L72:;
+    if (l54 == 0) goto L73;
+    ipl_to_rattle_dealloc(m, l56);
+L73:;
+    if (l50 == 0) goto L74;
+    ipl_to_rattle_dealloc(m, l52);
+L74:;
+    if (l46 == 0) goto L75;
+    ipl_to_rattle_dealloc(m, l48);
+L75:;
+    if (l40 == 0) goto L76;
+    ipl_to_rattle_dealloc(m, l44);
+L76:;
+    if (l7 == 0) goto L77;
+    ipl_to_rattle_dealloc(m, l65);
+    ipl_to_rattle_dealloc(m, l66);
+L77:;
+    ipl_to_rattle_dealloc(m, l67);
+    ipl_to_rattle_dealloc(m, l68);
+    l5 = 85u;
+    goto L1;
+L64:;
+    l2 = IPL_L64(l4, 16u);
+    IPL_S64U(l2, 17u, (ipl_u64)0u);
+    IPL_S8(l2, 16u, 1u);
+    l69 = (ipl_u64)l1;
+    IPL_S64U(l2, 8u, l69);
+    IPL_S64U(l2, 0u, l0);
+    IPL_S64U(l2, 25u, (ipl_u64)0u);
+    IPL_S64U(l2, 33u, (ipl_u64)0u);
+    IPL_S64U(l2, 40u, (ipl_u64)0u);
+    IPL_S64U(l2, 456u, l53);
+    IPL_S64U(l2, 448u, l54);
+    IPL_S64U(l2, 440u, l55);
+    IPL_S64U(l2, 432u, l56);
+    IPL_S64U(l2, 424u, l57);
+    IPL_S64U(l2, 416u, l58);
+    IPL_S64U(l2, 408u, l59);
+    IPL_S64U(l2, 400u, l60);
+    IPL_S64U(l2, 392u, l61);
+    IPL_S64U(l2, 384u, l62);
+    IPL_S64U(l2, 376u, l63);
+    IPL_S64U(l2, 368u, l64);
+    IPL_S64U(l2, 360u, l34);
+    l0 = (l34 - 60u);
+    l0 = (l0 < 3840u ? l0 : (ipl_u64)3840u);
+    IPL_S64U(l2, 352u, l0);
+    IPL_S64U(l2, 344u, (ipl_u64)0u);
+    IPL_S64U(l2, 336u, l35);
+    IPL_S64U(l2, 328u, l35);
+    IPL_S64U(l2, 320u, l35);
+    IPL_S64U(l2, 312u, l37);
+    IPL_S64U(l2, 304u, l34);
+    IPL_S64U(l2, 296u, l0);
+    IPL_S64U(l2, 288u, (ipl_u64)0u);
+    IPL_S64U(l2, 280u, l35);
+    IPL_S64U(l2, 272u, l35);
+    IPL_S64U(l2, 264u, l35);
+    IPL_S64U(l2, 256u, l36);
+    IPL_S64U(l2, 248u, l8);
+    IPL_S64U(l2, 240u, l9);
+    IPL_S64U(l2, 232u, l10);
+    IPL_S64U(l2, 224u, l11);
+    IPL_S64U(l2, 216u, l12);
+    IPL_S64U(l2, 208u, l13);
+    IPL_S64U(l2, 200u, l14);
+    IPL_S64U(l2, 192u, l15);
+    IPL_S64U(l2, 184u, l16);
+    IPL_S64U(l2, 176u, l17);
+    IPL_S64U(l2, 168u, l18);
+    IPL_S64U(l2, 160u, l19);
+    IPL_S64U(l2, 152u, l20);
+    IPL_S64U(l2, 144u, l21);
+    IPL_S64U(l2, 136u, l22);
+    IPL_S64U(l2, 128u, l23);
+    IPL_S64U(l2, 120u, l24);
+    IPL_S64U(l2, 112u, l25);
+    IPL_S64U(l2, 104u, l26);
+    IPL_S64U(l2, 96u, l27);
+    IPL_S64U(l2, 88u, l28);
+    IPL_S64U(l2, 80u, l29);
+    IPL_S64U(l2, 72u, l30);
+    IPL_S64U(l2, 64u, l31);
+    IPL_S64U(l2, 56u, l32);
+    IPL_S64U(l2, 48u, l33);
+    IPL_COPY((l2 + 464u), (l4 + 120u), (ipl_u64)264u);
+    IPL_S64U(l2, 888u, l41);
+    IPL_S64U(l2, 880u, l41);
+    IPL_S64U(l2, 872u, (ipl_u64)0u);
+    IPL_S64U(l2, 864u, l66);
+    IPL_S64U(l2, 856u, l39);
+    IPL_S64U(l2, 848u, l39);
+    IPL_S64U(l2, 840u, l38);
+    IPL_S64U(l2, 832u, l65);
+    IPL_S64U(l2, 824u, l69);
+    IPL_S64U(l2, 816u, l42);
+    IPL_S64U(l2, 808u, l40);
+    IPL_S64U(l2, 800u, l43);
+    IPL_S64U(l2, 792u, l44);
+    IPL_S64U(l2, 784u, l45);
+    IPL_S64U(l2, 776u, l46);
+    IPL_S64U(l2, 768u, l47);
+    IPL_S64U(l2, 760u, l48);
+    IPL_S64U(l2, 752u, l49);
+    IPL_S64U(l2, 744u, l50);
+    IPL_S64U(l2, 736u, l51);
+    IPL_S64U(l2, 728u, l52);
+    IPL_S64U(l2, 928u, (ipl_u64)0u);
+    IPL_S64U(l2, 920u, (ipl_u64)0u);
+    IPL_S64U(l2, 912u, (ipl_u64)0u);
+    IPL_S64U(l2, 904u, (ipl_u64)0u);
+    IPL_S64U(l2, 896u, (ipl_u64)0u);
+    IPL_S64U(l2, 936u, l67);
+    IPL_S64U(l2, 944u, (ipl_u64)0u);
+    IPL_S64U(l2, 952u, l34);
+    IPL_S64U(l2, 960u, l34);
+    IPL_S64U(l2, 968u, (ipl_u64)256u);
+    IPL_S64U(l2, 976u, l68);
+    IPL_S64U(l2, 984u, (ipl_u64)0u);
+    IPL_S64U(l2, 992u, (ipl_u64)31u);
+    IPL_S64U(l2, 1000u, (ipl_u64)31u);
+    l5 = 0u;
+    IPL_FILL((l2 + 1008u), 0u, (ipl_u64)16208u);
+    IPL_S64(l3, 0u, l2);
+L1:;
+    IPL_G(0) = (l4 + 1600u);
+    return l5;
+}
+
 /* ipl_port_call */
 static ipl_u32 ipl_w_ipl_port_call(ipl_u8 *const m, ipl_u64 l0, ipl_u64 l1, ipl_u64 l2) {
     ipl_u32 l5 = 0, l6 = 0, l11 = 0, l12 = 0, l13 = 0, l14 = 0, l15 = 0, l16 = 0, l20 = 0, l30 = 0, l31 = 0, t3, t4, t5, t6;
@@ -14851,7 +15553,7 @@ L99:;
     IPL_S64(l3, 80u, (ipl_u64)0u);
     IPL_S64(l3, 72u, (ipl_u64)0u);
     IPL_S64(l3, 64u, (ipl_u64)0u);
-    ipl_w47_get(m, (l3 + 64u), l4, l0, IPL_L32(l1, 4u), IPL_L32(l1, 8u));
+    ipl_w48_get(m, (l3 + 64u), l4, l0, IPL_L32(l1, 4u), IPL_L32(l1, 8u));
     if (IPL_L8(l3, 64u) != 0) goto L100;
     l6 = 1u;
     if (IPL_L8(l3, 72u) != 1u) goto L101;
@@ -14993,7 +15695,7 @@ L98:;
     IPL_S64(l3, 80u, (ipl_u64)0u);
     IPL_S64(l3, 72u, (ipl_u64)0u);
     IPL_S64(l3, 64u, (ipl_u64)0u);
-    ipl_w57_share(m, (l3 + 64u), l4, l0, IPL_L32(l1, 4u), IPL_L32(l1, 8u));
+    ipl_w58_share(m, (l3 + 64u), l4, l0, IPL_L32(l1, 4u), IPL_L32(l1, 8u));
     if (IPL_L8(l3, 64u) != 0) goto L120;
     l6 = 1u;
     if (IPL_L8(l3, 72u) != 1u) goto L121;
@@ -15172,7 +15874,7 @@ L80:;
     IPL_S64(l3, 72u, (ipl_u64)0u);
     IPL_S64(l3, 64u, (ipl_u64)0u);
     l13 = ((l6 >> 6) % 15u);
-    ipl_w48_bring(m, (l3 + 64u), l4, l0, l11, l13);
+    ipl_w49_bring(m, (l3 + 64u), l4, l0, l11, l13);
     if (IPL_L8(l3, 64u) == 0) goto L133;
     l16 = IPL_L32(l3, 84u);
     l7 = IPL_L64U(l3, 76u);
@@ -15269,7 +15971,7 @@ L79:;
     IPL_S64(l3, 80u, (ipl_u64)0u);
     IPL_S64(l3, 72u, (ipl_u64)0u);
     IPL_S64(l3, 64u, (ipl_u64)0u);
-    ipl_w58_reserves(m, (l3 + 64u), l4);
+    ipl_w59_reserves(m, (l3 + 64u), l4);
     IPL_S64U(l1, 48u, IPL_L64(l3, 88u));
     IPL_S64U(l1, 40u, IPL_L64(l3, 80u));
     IPL_S64U(l1, 32u, IPL_L64(l3, 72u));
@@ -15290,7 +15992,7 @@ L146:;
     IPL_S64(l3, 80u, (ipl_u64)0u);
     IPL_S64(l3, 72u, (ipl_u64)0u);
     IPL_S64(l3, 64u, (ipl_u64)0u);
-    ipl_w60_merge(m, (l3 + 64u), l4, l0, l12);
+    ipl_w61_merge(m, (l3 + 64u), l4, l0, l12);
     if (IPL_L8(l3, 64u) != 0) goto L147;
     l6 = 0u;
     l11 = 0u;
@@ -15547,7 +16249,7 @@ L183:;
     IPL_S64(l3, 80u, (ipl_u64)0u);
     IPL_S64(l3, 72u, (ipl_u64)0u);
     IPL_S64(l3, 64u, (ipl_u64)0u);
-    ipl_w48_bring(m, (l3 + 64u), l4, l0, l12, l6);
+    ipl_w49_bring(m, (l3 + 64u), l4, l0, l12, l6);
     if (IPL_L8(l3, 64u) == 0) goto L189;
     l16 = IPL_L32(l3, 84u);
     l20 = IPL_L32(l3, 80u);
@@ -15712,7 +16414,7 @@ L143:;
     IPL_S64(l3, 80u, (ipl_u64)0u);
     IPL_S64(l3, 72u, (ipl_u64)0u);
     IPL_S64(l3, 64u, (ipl_u64)0u);
-    ipl_w61_close(m, (l3 + 64u), l4, l0);
+    ipl_w62_close(m, (l3 + 64u), l4, l0);
     if (IPL_L8(l3, 64u) != 0) goto L204;
     l6 = 0u;
     l11 = 0u;
@@ -15915,7 +16617,7 @@ L228:;
     IPL_S64(l3, 64u, (ipl_u64)0u);
     l11 = IPL_L32(l1, 20u);
     if (l11 > 464u) goto L250;
-    ipl_w62_put(m, (l3 + 64u), l4, l0, l16, l12, (l1 + 168u), (ipl_u64)l11);
+    ipl_w63_put(m, (l3 + 64u), l4, l0, l16, l12, (l1 + 168u), (ipl_u64)l11);
     if (IPL_L8(l3, 64u) != 0) goto L251;
     l6 = 0u;
     l11 = 0u;
@@ -16056,7 +16758,7 @@ L227:;
     IPL_S64(l3, 80u, (ipl_u64)0u);
     IPL_S64(l3, 72u, (ipl_u64)0u);
     IPL_S64(l3, 64u, (ipl_u64)0u);
-    ipl_w65_del(m, (l3 + 64u), l4, l0, l16, l12);
+    ipl_w66_del(m, (l3 + 64u), l4, l0, l16, l12);
     if (IPL_L8(l3, 64u) != 0) goto L259;
     l6 = 0u;
     l11 = 0u;
@@ -16206,7 +16908,7 @@ L281:;
     l13 = (ipl_u32)(IPL_L64((l0 + 664u), 0u) > 18446744073708503040ull);
     if ((l11 | l13) != 0) goto L76;
     IPL_S32(l3, 32u, l16);
-    ipl_w66_commit(m, (l3 + 64u), l4, l0, (l0 + 2696u), (l3 + 32u), (ipl_u64)1u);
+    ipl_w67_commit(m, (l3 + 64u), l4, l0, (l0 + 2696u), (l3 + 32u), (ipl_u64)1u);
     if (IPL_L8(l3, 64u) == 0) goto L10;
     l16 = IPL_L32(l3, 84u);
     l20 = IPL_L32(l3, 80u);
@@ -16263,7 +16965,7 @@ L72:;
     l13 = 0u;
     goto L2;
 L283:;
-    ipl_w68_commit_all(m, (l3 + 64u), l4, l0, (l1 + 24u), (ipl_u64)l11);
+    ipl_w69_commit_all(m, (l3 + 64u), l4, l0, (l1 + 24u), (ipl_u64)l11);
     if (IPL_L8(l3, 64u) != 0) goto L284;
     l6 = 0u;
     l11 = 0u;
@@ -16404,7 +17106,7 @@ L71:;
     IPL_S64(l3, 80u, (ipl_u64)0u);
     IPL_S64(l3, 72u, (ipl_u64)0u);
     IPL_S64(l3, 64u, (ipl_u64)0u);
-    ipl_w69_abort(m, (l3 + 64u), l4, l16);
+    ipl_w70_abort(m, (l3 + 64u), l4, l16);
     if (IPL_L8(l3, 64u) != 0) goto L306;
     l6 = 0u;
     l11 = 0u;
@@ -16627,7 +17329,7 @@ L328:;
     l11 = (ipl_u32)(l11 == 0);
     IPL_S32(l3, 36u, l11);
     IPL_S32(l3, 32u, l11);
-    ipl_w70_look(m, (l3 + 64u), l4, l0, l5, ipl_remu32(m, (l13 ^ (ipl_u32)4294967295u), l14), (l3 + 32u));
+    ipl_w71_look(m, (l3 + 64u), l4, l0, l5, ipl_remu32(m, (l13 ^ (ipl_u32)4294967295u), l14), (l3 + 32u));
     l22 = IPL_L64(l3, 72u);
     if (IPL_L8(l3, 64u) != 0) goto L337;
     if (l22 == 0) goto L340;
@@ -16860,7 +17562,7 @@ L56:;
     IPL_S64(l3, 80u, (ipl_u64)0u);
     IPL_S64(l3, 72u, (ipl_u64)0u);
     IPL_S64(l3, 64u, (ipl_u64)0u);
-    ipl_w57_share(m, (l3 + 64u), l4, l0, l5, ipl_remu32(m, (l11 ^ (ipl_u32)4294967295u), l13));
+    ipl_w58_share(m, (l3 + 64u), l4, l0, l5, ipl_remu32(m, (l11 ^ (ipl_u32)4294967295u), l13));
     if (IPL_L8(l3, 64u) == 0) goto L10;
     l12 = IPL_L32(l3, 76u);
     l5 = IPL_L8(l3, 72u);
@@ -16999,7 +17701,7 @@ L364:;
     IPL_S64(l3, 16u, (ipl_u64)0u);
     IPL_S64(l3, 24u, (ipl_u64)0u);
 L363:;
-    ipl_w70_look(m, (l3 + 32u), l4, l0, l5, l15, l3);
+    ipl_w71_look(m, (l3 + 32u), l4, l0, l5, l15, l3);
     l22 = IPL_L64(l3, 40u);
     if (IPL_L8(l3, 32u) != 0) goto L30;
     l29 = (ipl_u64)l14;
@@ -17098,7 +17800,7 @@ L380:;
     IPL_S32(l3, 552u, 0u);
     l7 = (l10 + l8);
     if (l7 != 0u) goto L382;
-    ipl_w65_del(m, (l3 + 560u), l4, l0, l5, l15);
+    ipl_w66_del(m, (l3 + 560u), l4, l0, l5, l15);
     if (IPL_L8(l3, 560u) == 0) goto L35;
     l7 = ((l3 + 560u) + 8u);
     l8 = ((l3 + 560u) + 4u);
@@ -17108,7 +17810,7 @@ L380:;
     l17 = ((l3 + 560u) + 24u);
     goto L381;
 L382:;
-    ipl_w62_put(m, (l3 + 528u), l4, l0, l5, l15, (l3 + 64u), l7);
+    ipl_w63_put(m, (l3 + 528u), l4, l0, l5, l15, (l3 + 64u), l7);
     if (IPL_L8(l3, 528u) == 0) goto L35;
     l7 = ((l3 + 528u) + 8u);
     l8 = ((l3 + 528u) + 4u);
@@ -17145,7 +17847,7 @@ L43:;
     IPL_S32(l3, 4u, l11);
     IPL_S32(l3, 0u, l11);
     l13 = ipl_remu32(m, (l13 ^ (ipl_u32)4294967295u), l14);
-    ipl_w70_look(m, (l3 + 32u), l4, l0, l5, l13, l3);
+    ipl_w71_look(m, (l3 + 32u), l4, l0, l5, l13, l3);
     l22 = IPL_L64(l3, 40u);
     if (IPL_L8(l3, 32u) != 0) goto L29;
     IPL_FILL((l3 + 64u), 0u, (ipl_u64)464u);
@@ -17226,7 +17928,7 @@ L395:;
     IPL_S32(l3, 552u, 0u);
     l7 = (l8 + l19);
     if (l7 != 0u) goto L397;
-    ipl_w65_del(m, (l3 + 560u), l4, l0, l5, l13);
+    ipl_w66_del(m, (l3 + 560u), l4, l0, l5, l13);
     if (IPL_L8(l3, 560u) == 0) goto L35;
     l7 = ((l3 + 560u) + 8u);
     l8 = ((l3 + 560u) + 4u);
@@ -17236,7 +17938,7 @@ L395:;
     l17 = ((l3 + 560u) + 24u);
     goto L396;
 L397:;
-    ipl_w62_put(m, (l3 + 528u), l4, l0, l5, l13, (l3 + 64u), l7);
+    ipl_w63_put(m, (l3 + 528u), l4, l0, l5, l13, (l3 + 64u), l7);
     if (IPL_L8(l3, 528u) == 0) goto L35;
     l7 = ((l3 + 528u) + 8u);
     l8 = ((l3 + 528u) + 4u);
@@ -17270,7 +17972,7 @@ L399:;
     l13 = (ipl_u32)(IPL_L64((l0 + 664u), 0u) > 18446744073708503040ull);
     if ((l11 | l13) != 0) goto L403;
     IPL_S32(l3, 32u, l5);
-    ipl_w66_commit(m, (l3 + 64u), l4, l0, (l0 + 2696u), (l3 + 32u), (ipl_u64)1u);
+    ipl_w67_commit(m, (l3 + 64u), l4, l0, (l0 + 2696u), (l3 + 32u), (ipl_u64)1u);
     if (IPL_L8(l3, 64u) == 0) goto L35;
     l16 = IPL_L32(l3, 84u);
     l20 = IPL_L32(l3, 80u);
@@ -17322,7 +18024,7 @@ L405:;
     IPL_S64(l3, 80u, (ipl_u64)0u);
     IPL_S64(l3, 72u, (ipl_u64)0u);
     IPL_S64(l3, 64u, (ipl_u64)0u);
-    ipl_w68_commit_all(m, (l3 + 64u), l4, l0, (l1 + 24u), (ipl_u64)l11);
+    ipl_w69_commit_all(m, (l3 + 64u), l4, l0, (l1 + 24u), (ipl_u64)l11);
     if (IPL_L8(l3, 64u) == 0) goto L35;
     l5 = IPL_L8(l3, 72u);
     l12 = IPL_L32(l3, 76u);
@@ -17411,7 +18113,7 @@ L40:;
     IPL_S64(l3, 80u, (ipl_u64)0u);
     IPL_S64(l3, 72u, (ipl_u64)0u);
     IPL_S64(l3, 64u, (ipl_u64)0u);
-    ipl_w69_abort(m, (l3 + 64u), l4, l5);
+    ipl_w70_abort(m, (l3 + 64u), l4, l5);
     if (IPL_L8(l3, 64u) == 0) goto L35;
     l5 = IPL_L8(l3, 72u);
     l12 = IPL_L32(l3, 76u);
@@ -17501,7 +18203,7 @@ L39:;
     IPL_S64(l3, 80u, (ipl_u64)0u);
     IPL_S64(l3, 72u, (ipl_u64)0u);
     IPL_S64(l3, 64u, (ipl_u64)0u);
-    ipl_w60_merge(m, (l3 + 64u), l4, l0, l11);
+    ipl_w61_merge(m, (l3 + 64u), l4, l0, l11);
     if (IPL_L8(l3, 64u) == 0) goto L35;
     l5 = IPL_L8(l3, 72u);
     l12 = IPL_L32(l3, 76u);
@@ -17593,7 +18295,7 @@ L37:;
     IPL_S64(l3, 80u, (ipl_u64)0u);
     IPL_S64(l3, 72u, (ipl_u64)0u);
     IPL_S64(l3, 64u, (ipl_u64)0u);
-    ipl_w58_reserves(m, (l3 + 64u), l4);
+    ipl_w59_reserves(m, (l3 + 64u), l4);
     l7 = IPL_L64(l3, 64u);
     l8 = IPL_L64(l3, 72u);
     l10 = IPL_L64(l3, 80u);
@@ -17607,7 +18309,7 @@ L36:;
     IPL_S64(l3, 80u, (ipl_u64)0u);
     IPL_S64(l3, 72u, (ipl_u64)0u);
     IPL_S64(l3, 64u, (ipl_u64)0u);
-    ipl_w61_close(m, (l3 + 64u), l4, l0);
+    ipl_w62_close(m, (l3 + 64u), l4, l0);
     if (IPL_L8(l3, 64u) != 0) goto L34;
 L35:;
     l6 = 0u;
@@ -18094,6 +18796,11 @@ IPL_ENGINE size_t ipl_engine_memory(const struct ipl_config *config) {
            + 2600 * (size_t)config->sessions + 8 * (size_t)config->numbers + 2 * (((size_t)config->numbers + 7) / 8);
 }
 
+IPL_ENGINE size_t ipl_engine_read_memory(const struct ipl_config *config) {
+    return ipl_least_memory() + 31475 + ipl_bytes_of_places(config->places) + 8 * (size_t)config->numbers
+           + 2 * (((size_t)config->numbers + 7) / 8);
+}
+
 IPL_ENGINE size_t ipl_engine_check_memory(const struct ipl_config *config) {
     return ipl_least_memory() + 140482 + ipl_bytes_of_places(config->places);
 }
@@ -18133,7 +18840,8 @@ static void ipl_turn_request(struct ipl_request *r) {
 #endif
 }
 
-enum ipl_entry { IPL_DO_FORMAT, IPL_DO_CHECK, IPL_DO_RECORDS, IPL_DO_KEYS, IPL_DO_CALL };
+/* From IPL_DO_RECORDS on they leave a handle. */
+enum ipl_entry { IPL_DO_FORMAT, IPL_DO_CHECK, IPL_DO_RECORDS, IPL_DO_KEYS, IPL_DO_MAKE, IPL_DO_LOOK, IPL_DO_CALL, IPL_DO_READ };
 
 static IPL_OUT_OF_LINE ipl_u32 ipl_do(ipl_u8 *const m, enum ipl_entry what, ipl_u32 a, ipl_u32 b) {
     switch (what) {
@@ -18141,6 +18849,9 @@ static IPL_OUT_OF_LINE ipl_u32 ipl_do(ipl_u8 *const m, enum ipl_entry what, ipl_
     case IPL_DO_CHECK: return ipl_w_ipl_port_check(m, 0, a, IPL_REQUEST);
     case IPL_DO_RECORDS: return ipl_w_ipl_port_open_records(m, 0, a, b, IPL_REQUEST, IPL_OUT);
     case IPL_DO_KEYS: return ipl_w_ipl_port_open_keys(m, 0, a, b, IPL_REQUEST, IPL_OUT);
+    case IPL_DO_MAKE: return ipl_w_ipl_port_make_reader(m, 0, a, IPL_REQUEST, IPL_OUT);
+    case IPL_DO_LOOK: return ipl_w_ipl_port_look(m, IPL_E(m)->handle, IPL_REQUEST, IPL_OUT);
+    case IPL_DO_READ: return ipl_w_ipl_port_read(m, IPL_E(m)->handle, IPL_REQUEST, IPL_OUT);
     default: return ipl_w_ipl_port_call(m, IPL_E(m)->handle, IPL_REQUEST, IPL_OUT);
     }
 }
@@ -18189,13 +18900,21 @@ IPL_ENGINE uint32_t ipl_engine_format(struct ipl_engine *e, uint32_t places, uin
 
 IPL_ENGINE uint32_t ipl_engine_check(struct ipl_engine *e, uint32_t places) { return ipl_run(e, IPL_DO_CHECK, places, 0); }
 
+/* A reader is made first, and looks its part over then. */
+static ipl_u32 ipl_open_reader(struct ipl_engine *e, ipl_u32 places) {
+    ipl_u32 answer = ipl_run(e, IPL_DO_MAKE, places, 0);
+    return answer == IPL_OK ? ipl_run(e, IPL_DO_LOOK, 0, 0) : answer;
+}
+
 IPL_ENGINE uint32_t ipl_engine_open(struct ipl_engine *e, enum ipl_engine_kind kind, const struct ipl_config *config) {
     ipl_engine_request(e)->session = config->sessions;
     ipl_engine_request(e)->name = config->numbers;
+    e->reads = kind == IPL_ENGINE_READER;
+    if (e->reads) return ipl_open_reader(e, config->places);
     return ipl_run(e, kind == IPL_ENGINE_KEYS ? IPL_DO_KEYS : IPL_DO_RECORDS, config->places, config->frames);
 }
 
-IPL_ENGINE uint32_t ipl_engine_call(struct ipl_engine *e) { return ipl_run(e, IPL_DO_CALL, 0, 0); }
+IPL_ENGINE uint32_t ipl_engine_call(struct ipl_engine *e) { return ipl_run(e, e->reads ? IPL_DO_READ : IPL_DO_CALL, 0, 0); }
 
 /* The calls of ipl.h over engine.h: arguments are looked at here, and the list of open stores is kept here. */
 #include <string.h>
@@ -18254,6 +18973,7 @@ const char *ipl_text(enum ipl_answer answer) {
     case IPL_BAD_SPARES: return "more than 64 spare places, or no unit is left";
     case IPL_BAD_SESSIONS: return "not 1 to 32 sessions";
     case IPL_BAD_NUMBERS: return "not room for 120 to 15,300 committed numbers";
+    case IPL_READ_ONLY: return "the part was opened to be read alone";
     case IPL_READ_FAULT: return "a read failed";
     case IPL_DAMAGED: return "a sector of a page is damaged";
     case IPL_MALFORMED: return "a page is malformed";
@@ -18329,12 +19049,17 @@ static int ipl_barrier(void *context) {
 
 /* ---- how much memory */
 
-static enum ipl_answer ipl_look_at(const struct ipl_config *config, int opens, int has_spares) {
+/* What is begun. From IPL_WORK_READ on it ends with something open, and from IPL_WORK_OPEN on with sessions. */
+enum ipl_work { IPL_WORK_FORMAT, IPL_WORK_CHECK, IPL_WORK_READ, IPL_WORK_OPEN, IPL_WORK_OPEN_OR_FORMAT };
+
+static enum ipl_answer ipl_look_at(const struct ipl_config *config, enum ipl_work work) {
+    int reads = work >= IPL_WORK_READ, opens = work >= IPL_WORK_OPEN;
+    int has_spares = work == IPL_WORK_FORMAT || work == IPL_WORK_OPEN_OR_FORMAT;
     if (config->version != IPL_VERSION) return IPL_OTHER_VERSION;
     if (config->places < IPL_PLACES_LEAST || config->places > IPL_PLACES_MOST) return IPL_BAD_PLACES;
     if (opens && (config->frames < IPL_FRAMES_LEAST || config->frames > IPL_FRAMES_MOST)) return IPL_BAD_FRAMES;
     if (opens && (config->sessions < 1 || config->sessions > IPL_SESSIONS)) return IPL_BAD_SESSIONS;
-    if (opens && (config->numbers < IPL_NUMBERS_LEAST || config->numbers > IPL_NUMBERS_MOST)) return IPL_BAD_NUMBERS;
+    if (reads && (config->numbers < IPL_NUMBERS_LEAST || config->numbers > IPL_NUMBERS_MOST)) return IPL_BAD_NUMBERS;
     if (has_spares && (config->spares > IPL_SPARES_MOST || config->spares > config->places - IPL_PLACES_LEAST))
         return IPL_BAD_SPARES;
     return IPL_OK;
@@ -18343,20 +19068,18 @@ static enum ipl_answer ipl_look_at(const struct ipl_config *config, int opens, i
 /* The memory may begin at any address, and the engine's may not. */
 enum { IPL_GAP = IPL_ENGINE_ALIGNMENT - 1 };
 
-size_t ipl_memory(const struct ipl_config *config) {
-    if (config == NULL || ipl_look_at(config, 1, 0) != IPL_OK) return 0;
+static size_t ipl_wanted(const struct ipl_config *config, enum ipl_work work) {
+    if (config == NULL || ipl_look_at(config, work) != IPL_OK) return 0;
+    if (work == IPL_WORK_FORMAT) return IPL_GAP + ipl_engine_format_memory();
+    if (work == IPL_WORK_CHECK) return IPL_GAP + ipl_engine_check_memory(config);
+    if (work == IPL_WORK_READ) return IPL_GAP + ipl_engine_read_memory(config);
     return IPL_GAP + ipl_engine_memory(config);
 }
 
-size_t ipl_check_memory(const struct ipl_config *config) {
-    if (config == NULL || ipl_look_at(config, 0, 0) != IPL_OK) return 0;
-    return IPL_GAP + ipl_engine_check_memory(config);
-}
-
-size_t ipl_format_memory(const struct ipl_config *config) {
-    if (config == NULL || ipl_look_at(config, 0, 1) != IPL_OK) return 0;
-    return IPL_GAP + ipl_engine_format_memory();
-}
+size_t ipl_memory(const struct ipl_config *config) { return ipl_wanted(config, IPL_WORK_OPEN); }
+size_t ipl_read_memory(const struct ipl_config *config) { return ipl_wanted(config, IPL_WORK_READ); }
+size_t ipl_check_memory(const struct ipl_config *config) { return ipl_wanted(config, IPL_WORK_CHECK); }
+size_t ipl_format_memory(const struct ipl_config *config) { return ipl_wanted(config, IPL_WORK_FORMAT); }
 
 /* ---- the list of open stores */
 
@@ -18407,14 +19130,6 @@ static void ipl_unlist(struct ipl *s) {
 
 /* ---- openings, formats and checks */
 
-enum ipl_work { IPL_WORK_FORMAT, IPL_WORK_CHECK, IPL_WORK_OPEN, IPL_WORK_OPEN_OR_FORMAT };
-
-static size_t ipl_wanted(const struct ipl_config *config, enum ipl_work work) {
-    if (work == IPL_WORK_FORMAT) return ipl_format_memory(config);
-    if (work == IPL_WORK_CHECK) return ipl_check_memory(config);
-    return ipl_memory(config);
-}
-
 static enum ipl_answer ipl_refuse(struct ipl *s, enum ipl_answer answer, uint32_t detail) {
     s->detail[0] = detail;
     return answer;
@@ -18432,7 +19147,7 @@ static enum ipl_answer ipl_start(struct ipl *s, const struct ipl_driver *driver,
     if (driver == NULL || config == NULL || memory == NULL) return IPL_NULL_POINTER;
     if (driver->read == NULL || driver->program == NULL || driver->erase == NULL || driver->barrier == NULL)
         return IPL_NULL_POINTER;
-    answer = ipl_look_at(config, work >= IPL_WORK_OPEN, work == IPL_WORK_FORMAT || work == IPL_WORK_OPEN_OR_FORMAT);
+    answer = ipl_look_at(config, work);
     if (answer != IPL_OK) return ipl_refuse(s, answer, answer == IPL_OTHER_VERSION ? IPL_VERSION : 0);
     wanted = ipl_wanted(config, work);
     if (size < wanted) return ipl_refuse(s, IPL_SMALL_MEMORY, (uint32_t)wanted);
@@ -18445,8 +19160,10 @@ static enum ipl_answer ipl_start(struct ipl *s, const struct ipl_driver *driver,
     s->counting.erase = ipl_erase;
     s->counting.barrier = ipl_barrier;
     s->facts.places = config->places;
-    s->facts.frames = config->frames;
-    s->facts.sessions = config->sessions;
+    if (work >= IPL_WORK_OPEN) {
+        s->facts.frames = config->frames;
+        s->facts.sessions = config->sessions;
+    }
     s->facts.room = config->numbers;
     answer = ipl_list(s);
     if (answer != IPL_OK) return answer;
@@ -18572,19 +19289,31 @@ enum ipl_answer ipl_open_or_format(struct ipl *s, const struct ipl_driver *drive
     return ipl_open_kind(s, IPL_ENGINE_RECORDS, driver, config, memory, size, IPL_WORK_OPEN_OR_FORMAT);
 }
 
+enum ipl_answer ipl_open_to_read(struct ipl *s, const struct ipl_driver *driver, const struct ipl_config *config,
+                                 void *memory, size_t size) {
+    return ipl_open_kind(s, IPL_ENGINE_READER, driver, config, memory, size, IPL_WORK_READ);
+}
+
 /* ---- one call of an open store */
 
 static enum ipl_answer ipl_admit(const struct ipl *s, enum ipl_engine_kind kind) {
     if (s == NULL) return IPL_NULL_POINTER;
     if (s->self != s || (s->tag != IPL_TAG_OPEN && s->tag != IPL_TAG_OPENING)) return IPL_NO_STORE;
     if (s->is_busy) return IPL_BUSY;
-    return s->kind == (uint32_t)kind ? IPL_OK : IPL_NO_SUCH_CALL;
+    if (s->kind == (uint32_t)kind) return IPL_OK;
+    return s->kind == IPL_ENGINE_READER ? IPL_READ_ONLY : IPL_NO_SUCH_CALL;
 }
 
 /* Lets a call of a store of either kind begin. */
-static enum ipl_answer ipl_admit_any(const struct ipl *s) {
+static enum ipl_answer ipl_admit_either(const struct ipl *s) {
     enum ipl_answer answer = ipl_admit(s, IPL_ENGINE_RECORDS);
     return answer == IPL_NO_SUCH_CALL ? IPL_OK : answer;
+}
+
+/* And one that a part has too that is only read. */
+static enum ipl_answer ipl_admit_any(const struct ipl *s) {
+    enum ipl_answer answer = ipl_admit_either(s);
+    return answer == IPL_READ_ONLY ? IPL_OK : answer;
 }
 
 static void ipl_begin_call(struct ipl *s) {
@@ -18642,6 +19371,7 @@ static enum ipl_answer ipl_find_name(struct ipl *s, enum ipl_op op, uint32_t ses
     enum ipl_answer answer;
     if (!ipl_has_room(value, room, len)) return IPL_NULL_POINTER;
     answer = ipl_admit(s, IPL_ENGINE_RECORDS);
+    if (answer == IPL_READ_ONLY && op == IPL_OP_COMMITTED) answer = IPL_OK;
     if (answer != IPL_OK) return answer;
     ipl_begin_call(s);
     return ipl_end_call(s, ipl_find(s, op, session, name, value, room, len));
@@ -18691,7 +19421,7 @@ enum ipl_answer ipl_close(struct ipl *s) {
 }
 
 enum ipl_answer ipl_shutdown(struct ipl *s, int drops) {
-    enum ipl_answer answer = ipl_admit_any(s);
+    enum ipl_answer answer = ipl_admit_either(s);
     if (answer != IPL_OK) return answer;
     ipl_begin_call(s);
     if (drops) answer = ipl_abort_each(s);
@@ -18755,7 +19485,7 @@ enum ipl_answer ipl_state(const struct ipl *s, struct ipl_facts *facts) {
     answer = ipl_admit_any(s);
     if (answer != IPL_OK) return answer;
     *facts = s->facts;
-    return s->is_gone ? IPL_OK : ipl_tell_left(s, facts);
+    return s->is_gone || s->kind == IPL_ENGINE_READER ? IPL_OK : ipl_tell_left(s, facts);
 }
 
 const uint32_t *ipl_detail(const struct ipl *s) {

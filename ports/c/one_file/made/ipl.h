@@ -19,7 +19,7 @@ extern "C" {
  * Of this header, as 10,000 times the first number, 100 times the second and the third. A config has it,
  * and a library of another version refuses that.
  */
-#define IPL_VERSION 10300u
+#define IPL_VERSION 10400u
 /* The version of the library, which is IPL_VERSION of the header that it was made with. */
 uint32_t ipl_version(void);
 /* The version of the format that it writes to a part. It reads that one and all before it. */
@@ -80,9 +80,9 @@ struct ipl_driver {
 struct ipl_config {
     uint32_t version; /* IPL_VERSION */
     uint32_t places;  /* of the part, 5 to 1,028: the same at each opening as at the format */
-    uint32_t frames;  /* 2 to 64; a format and a check don't look at them */
+    uint32_t frames;  /* 2 to 64; a format, a check and an opening to read don't look at them */
     uint32_t spares;  /* of a format alone: places for those that wear out, 0 to 64, at most places - 5 */
-    uint32_t sessions; /* that may be open at once, 1 to 32; a format and a check don't look at them */
+    uint32_t sessions; /* that may be open at once, 1 to 32; a format, a check and an opening to read don't look at them */
     uint32_t numbers; /* so many committed ones have room in memory, 120 to 15,300; a format and a check don't look at it */
 };
 /* A config, as in: struct ipl_config config = IPL_CONFIG(1024, 16, 20); with 32 sessions and room for 15,300 committed
@@ -93,9 +93,11 @@ struct ipl_config {
 #define IPL_CONFIG_WITH(places, frames, spares, sessions, numbers) \
     { IPL_VERSION, (uint32_t)(places), (uint32_t)(frames), (uint32_t)(spares), (uint32_t)(sessions), (uint32_t)(numbers) }
 
-/* How many bytes an opening wants, which do for a format too; a check, which has room for 15,300 numbers, and may want more
- * than an opening with fewer; a format alone. 0: the config isn't one that an opening takes, or a check, or a format. */
+/* How many bytes an opening wants, which do for an opening to read and for a format too; an opening to read; a check, which has
+ * room for 15,300 numbers, and may want more than an opening with fewer; a format alone. 0: the config isn't one that is taken
+ * for that. */
 size_t ipl_memory(const struct ipl_config *config);
+size_t ipl_read_memory(const struct ipl_config *config);
 size_t ipl_check_memory(const struct ipl_config *config);
 size_t ipl_format_memory(const struct ipl_config *config);
 /* As many or some more, for an array: static uint8_t memory[IPL_MEMORY(1024, 16)]; */
@@ -104,6 +106,11 @@ size_t ipl_format_memory(const struct ipl_config *config);
 #define IPL_MEMORY_WITH(places, frames, sessions, numbers) \
     ((size_t)75000 + (size_t)391 * (places) + (size_t)6 * ((places) < 36 ? 16 * (size_t)(places) - 64 : 510) \
      + (size_t)16728 * (frames) + (size_t)2600 * (sessions) + (size_t)8 * (numbers) + 2 * (((size_t)(numbers) + 7) / 8))
+/* And to read. */
+#define IPL_READ_MEMORY(places) IPL_READ_MEMORY_WITH(places, IPL_NUMBERS_MOST)
+#define IPL_READ_MEMORY_WITH(places, numbers) \
+    ((size_t)77800 + (size_t)391 * (places) + (size_t)6 * ((places) < 36 ? 16 * (size_t)(places) - 64 : 510) \
+     + (size_t)8 * (numbers) + 2 * (((size_t)(numbers) + 7) / 8))
 
 /* ---- answers ------------------------------------------------------------------------------------
  *
@@ -148,6 +155,7 @@ enum ipl_answer {
     IPL_BAD_SPARES = 33,     /* more than 64, or no unit is left */
     IPL_BAD_SESSIONS = 34,   /* not 1 to 32 */
     IPL_BAD_NUMBERS = 35,    /* room for fewer than 120 committed numbers, or for more than 15,300 */
+    IPL_READ_ONLY = 36,      /* the part was opened to be read, and the call would write, or wants a session */
 
     /* 40 to 59: failed. The store goes on, and so do its sessions. */
     IPL_READ_FAULT = 40, /* a read failed */
@@ -202,7 +210,7 @@ int ipl_is_up(enum ipl_answer answer);
  * abandon, format and check: those are one at a time over all stores, since they share a list of the open ones.
  */
 struct ipl_facts {
-    uint32_t places, frames, sessions;
+    uint32_t places, frames, sessions; /* frames and sessions are 0 where the part is only read */
     uint32_t room;     /* so many committed numbers have room in memory */
     uint32_t units;
     uint32_t spares;   /* so many places were to spare when the part was formatted */
@@ -212,7 +220,7 @@ struct ipl_facts {
     uint64_t failures; /* so many of these failed */
     uint64_t doubtful; /* so many reads handed over what the part's ECC couldn't mend */
     /* What is left, as the store's tables have it; zeros where it couldn't be asked, since a longjmp left it
-     * or a reopen failed. */
+     * or a reopen failed, and of a part that is only read. */
     uint32_t retired;       /* so many of the spare places took a worn one's; one more puts the store down */
     uint32_t least_erases;  /* so often that place was erased that was least often, of those not retired */
     uint32_t most_erases;   /* and that which was most often */
@@ -257,6 +265,13 @@ enum ipl_answer ipl_open(struct ipl *s, const struct ipl_driver *driver, const s
  * cut ended may leave a part that is neither formatted nor blank. */
 enum ipl_answer ipl_open_or_format(struct ipl *s, const struct ipl_driver *driver, const struct ipl_config *config,
                                    void *memory, size_t size);
+/* Opens a part to be read alone. It is looked over, and nothing is written to it, now or later: no program, no erase and
+ * no barrier is asked of the driver. So it opens a part of which more places are worn than are spare, one whose numbers are
+ * used up, and one that can't be written. Of the calls below ipl_committed, ipl_reopen, ipl_close, ipl_abandon and those
+ * that tell of the store are done then; each other one is answered IPL_READ_ONLY. A record whose page doesn't read well is
+ * answered IPL_DAMAGED or IPL_MALFORMED, and all others are there. Of keys these are the buckets. */
+enum ipl_answer ipl_open_to_read(struct ipl *s, const struct ipl_driver *driver, const struct ipl_config *config,
+                                 void *memory, size_t size);
 /* Gives the memory back; what isn't committed is gone. The part isn't asked. */
 enum ipl_answer ipl_close(struct ipl *s);
 /* Writes down of which units the log sectors are known, so that the next opening of the part takes their
@@ -275,7 +290,7 @@ uint32_t ipl_unit_count(const struct ipl *s);
 /* What is known of a store without asking the part. */
 enum ipl_answer ipl_state(const struct ipl *s, struct ipl_facts *facts);
 /* The four numbers that go with the last answer, zeros but for what the table says. A call of an open store
- * that answers 23, 24, 26 or 27 leaves them as they were. Of NULL they are zeros. */
+ * that answers 23, 24, 26, 27 or 36 leaves them as they were. Of NULL they are zeros. */
 const uint32_t *ipl_detail(const struct ipl *s);
 
 enum ipl_answer ipl_begin(struct ipl *s, uint32_t session);

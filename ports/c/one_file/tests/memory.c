@@ -1,4 +1,4 @@
-/* The memory of an engine: an opening and a check take what is said for each config, and nothing is written past
+/* The memory of an engine: an opening, one to read and a check take what is said for each config, and nothing is written past
  * it; in less an opening answers that it is out of memory, or a trap. It has ipl.c within, to see the engine. */
 #include "ipl.c"
 #include "turned_part.h"
@@ -35,11 +35,11 @@ static size_t left(const struct ipl_engine *e) { return (size_t)(e->end - e->hea
 
 static unsigned long in_less;
 
-static void in_too_little(uint32_t places, uint32_t frames, uint32_t numbers) {
-    const struct ipl_config config = IPL_CONFIG_WITH(places, frames, 0, IPL_SESSIONS, numbers);
-    size_t whole = ipl_engine_memory(&config), size;
+static void in_too_little(uint32_t places, enum ipl_engine_kind kind, uint32_t numbers) {
+    const struct ipl_config config = IPL_CONFIG_WITH(places, 3, 0, IPL_SESSIONS, numbers);
+    size_t whole = kind == IPL_ENGINE_READER ? ipl_engine_read_memory(&config) : ipl_engine_memory(&config), size;
     for (size = ipl_engine_format_memory(); size < whole; size += 1531) {
-        uint32_t answer = ipl_engine_open(raise_in(size), IPL_ENGINE_RECORDS, &config);
+        uint32_t answer = ipl_engine_open(raise_in(size), kind, &config);
         nothing_is_written_behind();
         must(answer == IPL_OUT_OF_MEMORY || answer == IPL_TRAPPED, "too little memory is answered", answer);
         in_less++;
@@ -69,14 +69,19 @@ int main(int argc, char **argv) {
             must(ipl_engine_open(e, tried % 2 ? IPL_ENGINE_KEYS : IPL_ENGINE_RECORDS, &config) == IPL_OK, "opening", frames);
             must(left(e) <= LEFT, "bytes that an opening leaves", (unsigned long)left(e));
             nothing_is_written_behind();
+            e = raise_in(ipl_engine_read_memory(&config));
+            must(ipl_engine_open(e, IPL_ENGINE_READER, &config) == IPL_OK, "opening to read", numbers);
+            must(left(e) <= LEFT, "bytes that an opening to read leaves", (unsigned long)left(e));
+            nothing_is_written_behind();
             tried++;
         }
         if (places == 9) {
-            in_too_little(places, 3, IPL_NUMBERS_MOST);
-            in_too_little(places, 3, IPL_NUMBERS_LEAST);
+            in_too_little(places, IPL_ENGINE_RECORDS, IPL_NUMBERS_MOST);
+            in_too_little(places, IPL_ENGINE_RECORDS, IPL_NUMBERS_LEAST);
+            in_too_little(places, IPL_ENGINE_READER, IPL_NUMBERS_LEAST);
         }
         free(part);
     }
-    printf("memory: %u openings that leave at most %d bytes, %lu in too little memory\n", (unsigned)tried, LEFT, in_less);
+    printf("memory: %u openings, and as many to read, that leave at most %d bytes, %lu in too little memory\n", (unsigned)tried, LEFT, in_less);
     return 0;
 }
