@@ -8,7 +8,7 @@
 #include <string.h>
 #include <sys/mman.h>
 
-enum { STACK = 40960, REQUEST = STACK, OUT = REQUEST + 656, HEAP = OUT + 16, MEMORIES = 64 };
+enum { STACK = 40960, REQUEST = STACK, OUT = REQUEST + 656, HEAP = OUT + 16, MEMORIES = 256 };
 
 struct Z_env_instance_t {
     struct ipl_engine *engine;
