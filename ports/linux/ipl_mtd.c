@@ -268,6 +268,7 @@ static const char *open_part(struct ipl_mtd *it, const char *path) {
     if (strlen(path) >= sizeof it->path) return "its path is too long";
     strcpy(it->path, path);
     it->fd = open(path, O_RDWR | O_CLOEXEC);
+    if (it->fd < 0 && errno == EACCES) it->fd = open(path, O_RDONLY | O_CLOEXEC);
     if (it->fd < 0) return "it can't be opened";
     if (ioctl(it->fd, MEMGETINFO, &info) != 0 || info.erasesize == 0) return "it is no part of the MTD layer";
     if (flock(it->fd, LOCK_EX | LOCK_NB) != 0) return "another program has it";

@@ -60,7 +60,8 @@ struct ipl_mtd_facts {
 struct ipl_mtd;
 
 /* Opens the part at PATH for one store. `options` may be NULL, for IPL_MTD_OPTIONS. NULL: nothing is open, and *why says
- * why, in words. The part is locked (flock) against others that open it so, and is written to by nothing but the driver. */
+ * why, in words. The part is locked (flock) against others that open it so, and is written to by nothing but the driver.
+ * One that the kernel lets nobody write is opened to be read: each program and each erase of it fails then. */
 struct ipl_mtd *ipl_mtd_open(const char *path, const struct ipl_mtd_options *options, const char **why);
 /* Its driver, for as long as it is open. */
 const struct ipl_driver *ipl_mtd_driver(struct ipl_mtd *part);

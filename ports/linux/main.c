@@ -10,8 +10,8 @@
 static const char usage[] =
     "usage: ipl_mtd format CHIP [--spares K]   all that CHIP holds is gone\n"
     "       ipl_mtd check CHIP                 all is read, nothing is written\n"
-    "       ipl_mtd list CHIP [A [B]]          a line `N VALUE` for each record from A to B, then `end`\n"
-    "       ipl_mtd get CHIP N                 its value, or `none` and status 1\n"
+    "       ipl_mtd list CHIP [A [B]]          a line `N VALUE` for each record from A to B, then `end`; nothing is written\n"
+    "       ipl_mtd get CHIP N                 its value, or `none` and status 1; nothing is written\n"
     "       ipl_mtd put CHIP                   reads lines `N VALUE`; each is a commit, and `ok` once it lasts\n"
     "       ipl_mtd del CHIP N\n"
     "       ipl_mtd facts CHIP                 what is known of the store, and what it has left\n"
@@ -241,15 +241,17 @@ static int read_words(int argc, char **argv, struct words *w) {
     return w->chip != NULL;
 }
 
-/* Which numbers a word takes, and whether the chip is opened for it. */
+/* Which numbers a word takes, and whether the chip is opened for it, to be read alone or to be written. */
+enum opening { NONE, TO_READ, TO_WRITE };
+
 static const struct word {
     const char *name;
     uint32_t least, most;
-    int opens;
+    enum opening opening;
     int (*run)(const struct words *w);
 } known[] = {
-    {"format", 0, 0, 0, format}, {"check", 0, 0, 0, check}, {"copy", 0, 0, 0, copy}, {"list", 0, 2, 1, list},
-    {"get", 1, 1, 1, get}, {"put", 0, 0, 1, put}, {"del", 1, 1, 1, del}, {"facts", 0, 0, 1, facts}
+    {"format", 0, 0, NONE, format}, {"check", 0, 0, NONE, check}, {"copy", 0, 0, NONE, copy}, {"list", 0, 2, TO_READ, list},
+    {"get", 1, 1, TO_READ, get}, {"put", 0, 0, TO_WRITE, put}, {"del", 1, 1, TO_WRITE, del}, {"facts", 0, 0, TO_WRITE, facts}
 };
 
 static const struct word *find_word(const struct words *w) {
@@ -258,14 +260,19 @@ static const struct word *find_word(const struct words *w) {
     return NULL;
 }
 
-static int run(const struct words *w, const struct word *it) {
-    if (!it->opens) return it->run(w);
+static enum ipl_answer open_for(enum opening opening) {
     struct ipl_config config = config_of(0);
-    size_t size = take_memory(ipl_memory(&config));
-    int status = status_of("open", ipl_open(&store, chip_driver(&chip), &config, memory, size));
+    size_t size = take_memory(opening == TO_READ ? ipl_read_memory(&config) : ipl_memory(&config));
+    if (opening == TO_READ) return ipl_open_to_read(&store, chip_driver(&chip), &config, memory, size);
+    return ipl_open(&store, chip_driver(&chip), &config, memory, size);
+}
+
+static int run(const struct words *w, const struct word *it) {
+    if (it->opening == NONE) return it->run(w);
+    int status = status_of("open", open_for(it->opening));
     if (status != DONE) return status;
     status = it->run(w);
-    ipl_shutdown(&store, 1);
+    if (it->opening == TO_WRITE) ipl_shutdown(&store, 1);
     ipl_close(&store);
     return status;
 }

@@ -25,7 +25,18 @@ Q='--mapping quarters'
 nand 'weak blocks, kept' weakblocks=1:5,14:3 $Q
 nand 'weak blocks, kept, five blocks' weakblocks=5:5,71:3
 nand 'weak blocks, failed' weakblocks=1:5,14:3 $Q --fail-erases
-nand 'six weak blocks, four spare' weakblocks=0:3,1:5,14:3,15:4,16:3,17:3 $Q
+sim weakblocks=0:3,1:5,14:3,15:4,16:3,17:3
+runs 'six weak blocks, four spare' $Q
+# It doesn't open to be written any more; to be read it does, as often as it is asked.
+for turn in first second; do
+    # shellcheck disable=SC2086
+    ipl_mtd list "mtd:$D" --places 20 $Q >/tmp/$turn 2>&1
+    echo "status $?" >>/tmp/$turn
+done
+counted=$(sed -n 's/^check: done (0), \([0-9]*\) records$/\1/p' /tmp/line)
+[ "$(grep -c '^[0-9]* [0-9a-f-]*$' /tmp/first)" = "$counted" ] && cmp -s /tmp/first /tmp/second \
+    && echo "six weak blocks, listed: as many records as a check counts, twice|$(tail -n 2 /tmp/first | tr '\n' '|')"
+unsim
 nand 'a weak page, kept and opened again' weakpages=900:1 $Q --reopen 5
 nand 'a weak page, failed' weakpages=900:1 $Q --fail-erases
 nand 'a grave page of a log' gravepages=125:20 $Q

@@ -21,6 +21,10 @@ said_of get ipl_mtd get "mtd:$D" 5
 said_of 'get nothing' ipl_mtd get "mtd:$D" 7
 said_of list ipl_mtd list "mtd:$D"
 said_of 'list of a range' ipl_mtd list "mtd:$D" 6 99999
+said_of 'list writes nothing' sh -c "ipl_mtd list mtd:$D --tell 2>&1 | grep -o '[0-9]* programs in [0-9]*, [0-9]* erases, [0-9]* barriers'"
+said_of 'list of what nobody may write' ipl_mtd list "mtd:${D}ro" 6
+said_of 'get of it' ipl_mtd get "mtd:${D}ro" 5
+said_of 'put to it' sh -c "echo '7 00' | ipl_mtd put mtd:${D}ro"
 said_of del ipl_mtd del "mtd:$D" 6
 said_of check ipl_mtd check "mtd:$D"
 said_of 'a line that is none' sh -c "printf '5 686\n' | ipl_mtd put mtd:$D"
