@@ -21,6 +21,7 @@ words = record {
   formats_and_closes = refl;
   says_its_view = refl;
   checks = refl;
+  lists = refl;
   memory = refl;
   in_file = refl;
 }
@@ -88,6 +89,7 @@ no_words = record {
   close_flag = refl;
   closes_twice = refl;
   check_flag = refl;
+  list_flag = refl;
   view_flag = refl;
   twice = refl;
   valued = refl;

@@ -13,7 +13,7 @@ use Rattle.command_line.specs.Chip.{Chip}
 use Rattle.command_line.specs.Asked.{Asks, view, number_in, spares_at, frames_at, sessions_at, numbers_at, run_at, trial_at, chip_at, request_at, asked_at, asked_of, IsInBounds}
 use Rattle.command_line.specs.declared.asked.Asked.{Asked}
 use Rattle.command_line.specs.declared.asked.Request.{Request}
-use Rattle.command_line.specs.declared.asked.Request.TheVariants.{Format, Serial, Check}
+use Rattle.command_line.specs.declared.asked.Request.TheVariants.{Format, Serial, Check, Records}
 
 abbrev value_of : Text → ℕ
 value_of text = digits_value 10 (without_leading_plus text)
@@ -76,12 +76,13 @@ trial_bounds rows =
     let numbers = numbers_bounds rows in
     (seed.1, count.1, frames.0, frames.1, sessions.0, sessions.1, numbers.0, numbers.1)
 
-request_bounds : (rows : List Row) (b c d e : Bool) → IsInBounds (if b then Format (spares_at rows) else if c then Serial (sessions_at rows) else if d then trial_at rows else if e then Check else run_at rows)
-request_bounds rows true c d e = spares_bounds rows
-request_bounds rows false true d e = sessions_bounds rows
-request_bounds rows false false true e = trial_bounds rows
-request_bounds rows false false false true = tt
-request_bounds rows false false false false = run_bounds rows
+request_bounds : (rows : List Row) (b c d e f : Bool) → IsInBounds (if b then Format (spares_at rows) else if c then Serial (sessions_at rows) else if d then trial_at rows else if e then Check else if f then Records else run_at rows)
+request_bounds rows true c d e f = spares_bounds rows
+request_bounds rows false true d e f = sessions_bounds rows
+request_bounds rows false false true e f = trial_bounds rows
+request_bounds rows false false false true f = tt
+request_bounds rows false false false false true = tt
+request_bounds rows false false false false false = run_bounds rows
 
 abbrev HasBounds : Option Asks → Type 0
 HasBounds o = IfSome o (λ asks. IsInBounds asks.request)
@@ -93,7 +94,7 @@ asks_bounds request (Some chip) h = h
 found_bounds : (b : Bool) (o : Option (Text × List Row)) → HasBounds (if b then option_and_then (λ p. asked_at p.0 p.1) o else None)
 found_bounds false o = tt
 found_bounds true None = tt
-found_bounds true (Some p) = asks_bounds (request_at p.0 p.1) (chip_at p.1) (request_bounds p.1 _ _ _ _)
+found_bounds true (Some p) = asks_bounds (request_at p.0 p.1) (chip_at p.1) (request_bounds p.1 _ _ _ _ _)
 
 asked_bounds : (words : List Text) → HasBounds (asked_of words)
 unfolding asked_of

@@ -11,7 +11,7 @@ use Rattle.command_line.specs.Ipl.{ipl_command}
 use Rattle.command_line.specs.Chip.{Chip, chip_of, word_view}
 use Rattle.command_line.specs.declared.asked.Asked.{Asked}
 use Rattle.command_line.specs.declared.asked.Request.{Request}
-use Rattle.command_line.specs.declared.asked.Request.TheVariants.{Format, Run, Serial, Check, Trial}
+use Rattle.command_line.specs.declared.asked.Request.TheVariants.{Format, Run, Serial, Check, Trial, Records}
 
 -- what is to be done, with which chip
 pub record Asks : Type 0 where
@@ -69,6 +69,7 @@ request_at name rows = if bytes_eq name (codes "format") then Format (spares_at 
     else if bytes_eq name (codes "serial") then Serial (sessions_at rows)
     else if bytes_eq name (codes "trial") then trial_at rows
     else if bytes_eq name (codes "check") then Check
+    else if bytes_eq name (codes "list") then Records
     else run_at rows
 
 -- the chip that CHIP names
@@ -93,5 +94,6 @@ IsInBounds (Run frames sessions numbers format close) = (2 ≤ frames) × (frame
     × (1 ≤ sessions) × (sessions ≤ 32) × (120 ≤ numbers) × (numbers ≤ 15300)
 IsInBounds (Serial sessions) = (1 ≤ sessions) × (sessions ≤ 32)
 IsInBounds Check = ⊤
+IsInBounds Records = ⊤
 IsInBounds (Trial seed count frames sessions numbers) = (seed ≤ 4294967295) × (count ≤ 1000000)
     × (2 ≤ frames) × (frames ≤ 64) × (1 ≤ sessions) × (sessions ≤ 32) × (120 ≤ numbers) × (numbers ≤ 15300)

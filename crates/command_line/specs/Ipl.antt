@@ -61,6 +61,10 @@ trial_command = with_rule (with_rule (with_rule (with_rule (with_rule (with_rule
 abbrev pub check_command : App
 check_command = with_rule (new_app (codes "check")) chip_rule
 
+-- list CHIP
+abbrev pub list_command : App
+list_command = with_rule (new_app (codes "list")) chip_rule
+
 -- the words come without the program's name, and none of them asks for help or a version
 abbrev pub bare : Shape → Shape
 bare s = record s {
@@ -73,6 +77,6 @@ bare s = record s {
 -- ipl
 unfoldable pub ipl_command : App
 ipl_command =
-    with_subcommand (with_subcommand (with_subcommand (with_subcommand (with_subcommand
+    with_subcommand (with_subcommand (with_subcommand (with_subcommand (with_subcommand (with_subcommand
     (on_top bare (new_app (codes "ipl"))) format_command.top) run_command.top) serial_command.top)
-    trial_command.top) check_command.top
+    trial_command.top) check_command.top) list_command.top

@@ -6,7 +6,7 @@ use Rattle.clap.specs.Words.{Text}
 use Rattle.command_line.specs.Chip.{Chip, chip_of, ram, file}
 use Rattle.command_line.specs.Choice.{chosen, requested}
 use Rattle.command_line.specs.declared.asked.Request.{Request}
-use Rattle.command_line.specs.declared.asked.Request.TheVariants.{Format, Run, Serial, Check, Trial}
+use Rattle.command_line.specs.declared.asked.Request.TheVariants.{Format, Run, Serial, Check, Trial, Records}
 use Rattle.command_line.specs.declared.choice.Choice.TheVariants as choice
 
 -- the word that spells a chip
@@ -66,6 +66,7 @@ pub record WordExamples : Type 0 where
       ≡ Some (Run 16 32 15300 true true)
   pub says_its_view : requested (codes "serial" ∷ codes "ram:5" ∷ []) ≡ Some (Serial 32)
   pub checks : requested (codes "check" ∷ codes "ram:5" ∷ []) ≡ Some Check
+  pub lists : requested (codes "list" ∷ codes "ram:5" ∷ []) ≡ Some Records
   pub memory : chosen (codes "run" ∷ codes "ram:5" ∷ []) ≡ choice.Ram 5
   pub in_file : chosen (codes "run" ∷ codes "file:5:a:b" ∷ []) ≡ choice.File 5 (codes "a:b")
 
@@ -148,6 +149,7 @@ pub record NoWordExamples : Type 0 where
   pub closes_twice : requested (codes "run" ∷ codes "ram:5" ∷ codes "--close" ∷ codes "--close" ∷ [])
       ≡ None
   pub check_flag : requested (codes "check" ∷ codes "ram:5" ∷ codes "--format" ∷ []) ≡ None
+  pub list_flag : requested (codes "list" ∷ codes "ram:5" ∷ codes "--close" ∷ []) ≡ None
   pub view_flag : requested (codes "serial" ∷ codes "ram:5" ∷ codes "--format" ∷ []) ≡ None
   pub twice : requested (codes "run" ∷ codes "ram:5" ∷ codes "--format" ∷ codes "--format" ∷ [])
       ≡ None

@@ -36,6 +36,8 @@ pub enum Request {
     },
     /// It is checked: all that it holds is read, and its records are counted.
     Check,
+    /// All its records are said, of the pages that read well. Nothing is written.
+    Records,
     /// So many commands that a seed chooses are done, with so many page frames and sessions and room for
     /// so many committed numbers.
     Trial {
@@ -169,6 +171,9 @@ fn request_at(name: &str, matches: &ArgMatches<'_>) -> Request
     }
     if name == "check" {
         return Request::Check;
+    }
+    if name == "list" {
+        return Request::Records;
     }
     run_at(matches)
 }

@@ -4,7 +4,7 @@ ghost use Rattle.clap.specs.Words.{app_of, rule_of};
 ghost use Rattle.clap.specs.declared.builder.command.Command.TheViews.{out-Command as fields_of};
 ghost use Rattle.command_line.specs.Ipl.{chip_rule, flag_rule, number_rule, frames_rule, sessions_rule, numbers_rule, spares_rule};
 ghost use Rattle.command_line.specs.Ipl.{wanted_rule, format_command, run_command, serial_command};
-ghost use Rattle.command_line.specs.Ipl.{trial_command, check_command, ipl_command};
+ghost use Rattle.command_line.specs.Ipl.{trial_command, check_command, list_command, ipl_command};
 
 use clap::builder::ValueParser;
 use clap::{Arg, ArgAction, Command};
@@ -132,6 +132,14 @@ fn check_part<'a>(alloc: Global) -> Result<Command<'a>, AllocError>
     Command::new(alloc, "check").arg(chip_argument(alloc))
 }
 
+/// `list CHIP`.
+fn list_part<'a>(alloc: Global) -> Result<Command<'a>, AllocError>
+    ensures app { IfOk result (λ c. app_of c ≡ list_command) }
+    ensures local { IfOk result (λ c. (fields_of c).has_globals ≡ false) }
+{
+    Command::new(alloc, "list").arg(chip_argument(alloc))
+}
+
 /// The command `ipl`.
 pub(crate) fn ipl<'a>(alloc: Global) -> Result<Command<'a>, AllocError>
     ensures { IfOk result (λ c. app_of c ≡ ipl_command) }
@@ -145,5 +153,6 @@ pub(crate) fn ipl<'a>(alloc: Global) -> Result<Command<'a>, AllocError>
         .subcommand(run_part(alloc)?)?
         .subcommand(serial_part(alloc)?)?
         .subcommand(trial_part(alloc)?)?
-        .subcommand(check_part(alloc)?)
+        .subcommand(check_part(alloc)?)?
+        .subcommand(list_part(alloc)?)
 }

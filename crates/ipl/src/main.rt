@@ -70,9 +70,11 @@ fn over_file(
     if Geometry::of(places).is_none() {
         return over(rt, alloc, words, NoChip::of(places));
     }
-    // A check writes nothing, so a file that may only be read will do for it.
+    // A check and a listing write nothing, so a file that may only be read will do for them.
     let attached = match request(alloc, words) {
-        Ok(Some(Request::Check)) => FileChip::attach_to_read(rt, alloc, path, places),
+        Ok(Some(Request::Check | Request::Records)) => FileChip::attach_to_read(
+            rt, alloc, path, places,
+        ),
         _ => FileChip::attach(rt, alloc, path, places),
     };
     match attached {

@@ -12,7 +12,7 @@ use Rattle.ipl_meaning.specs.Faults.{greatest_found}
 use Rattle.restart.specs.RenewalChains.{starts_at}
 use Rattle.restart.proofs.ChainLemmas.{images_rest}
 use Rattle.command_line.specs.declared.asked.Request.{Request}
-use Rattle.command_line.specs.declared.asked.Request.TheVariants.{Format, Run, Serial, Check, Trial}
+use Rattle.command_line.specs.declared.asked.Request.TheVariants.{Format, Run, Serial, Check, Trial, Records}
 use Rattle.command_line.specs.Ends.{fault_status}
 use Rattle.command_line.specs.declared.end.End.TheVariants.{Words, Chip, OutOfMemory, Script, Output, TooLong}
 use Rattle.ipl_cli.specs.Ending.{Ending, status_at}
@@ -103,6 +103,7 @@ module _ (old new : Told) (consistent : IsConsistent old) (calm : IsCalm old new
   chip_ends (Run frames sessions numbers false closes) holds e c = opened_ends numbers holds.0 holds.1 e c
   chip_ends (Serial sessions) holds e c = absurd (c.1 holds)
   chip_ends Check holds e c = absurd (checked_never old new calm holds e c)
+  chip_ends Records holds e c = absurd (checked_never old new calm holds e c)
   chip_ends (Trial seed count frames sessions numbers) holds e c = formatted_ends holds e c
 
   never_long : EndsInTime old new → ¬ IsTooLong old new
@@ -121,10 +122,12 @@ module _ (old new : Told) (consistent : IsConsistent old) (calm : IsCalm old new
   complete_by (Run frames sessions numbers formats closes) holds time (Err Script) c = absurd (calm.script c)
   complete_by (Serial sessions) holds time (Err Script) c = absurd (calm.script c)
   complete_by Check holds time (Err Script) c = absurd c
+  complete_by Records holds time (Err Script) c = absurd c
   complete_by (Trial seed count frames sessions numbers) holds time (Err Script) c = absurd c
   complete_by request holds time (Err Output) c = absurd (calm.says c)
   complete_by (Format spares) holds time (Err TooLong) c = absurd c
   complete_by (Run frames sessions numbers formats closes) holds time (Err TooLong) c = absurd (never_long time c)
   complete_by (Serial sessions) holds time (Err TooLong) c = absurd (never_long time c)
   complete_by Check holds time (Err TooLong) c = absurd c
+  complete_by Records holds time (Err TooLong) c = absurd c
   complete_by (Trial seed count frames sessions numbers) holds time (Err TooLong) c = absurd c

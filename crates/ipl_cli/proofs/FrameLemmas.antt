@@ -1,7 +1,7 @@
 -- What was done with how many frames stays so once the end was noted.
 use Rattle.std.proofs.Common.{◌≡◌, ◌∙◌, ℕ, true, false, Some, None, OnOk, sym, ap, subst}
 use Rattle.chip_trait.specs.Told.{Told}
-use Rattle.command_line.specs.declared.asked.Request.TheVariants.{Format, Run, Serial, Check, Trial}
+use Rattle.command_line.specs.declared.asked.Request.TheVariants.{Format, Run, Serial, Check, Trial, Records}
 use Rattle.script_store.specs.declared.store.ScriptStore.{ScriptStore}
 use Rattle.ipl_cli.specs.Ending.{AskedFor, Ending, but_noted, status_at}
 use Rattle.ipl_cli.specs.Frames.{DoesWith, DoesAsAsked, MarksWhatWasErased, CleansWhatIsMarked, ClosesAsAsked}
@@ -32,6 +32,7 @@ module _ (old mid new : Told) (only : new ≡ but_noted mid new.beside.noted) wh
   asked_noted (Some (Run frames sessions numbers false closes)) d = with_noted _ _ frames sessions numbers d
   asked_noted (Some (Serial sessions)) d = tt
   asked_noted (Some Check) d = tt
+  asked_noted (Some Records) d = tt
   asked_noted (Some (Trial seed count frames sessions numbers)) d = with_noted _ _ frames sessions numbers d
 
   ends_noted : EndsClosed old mid → EndsClosed old new
@@ -70,6 +71,7 @@ module _ (old mid new : Told) (only : new ≡ but_noted mid new.beside.noted) wh
       }
   closed_noted (Some (Serial sessions)) d = tt
   closed_noted (Some Check) d = tt
+  closed_noted (Some Records) d = tt
   closed_noted (Some (Trial seed count frames sessions numbers)) d = tt
 
 -- at 0 all was done

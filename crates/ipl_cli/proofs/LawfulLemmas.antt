@@ -23,7 +23,7 @@ use Rattle.script_store.specs.declared.store.ScriptStore.{ScriptStore}
 use Rattle.store_laws.specs.Keeps.{all_pages}
 use Rattle.script_store.specs.Keeps.{script_keeping}
 use Rattle.command_line.specs.declared.end.End.{End}
-use Rattle.command_line.specs.declared.asked.Request.TheVariants.{Format, Run, Serial, Check, Trial}
+use Rattle.command_line.specs.declared.asked.Request.TheVariants.{Format, Run, Serial, Check, Trial, Records}
 use Rattle.ipl_cli.specs.Adds.{AddsLawful, AddsLawfulByMark, AddsAsAsked}
 use Rattle.ipl_cli.specs.Ending.{AskedFor, but_noted}
 use Rattle.ipl_cli.specs.Runs.{StartsOpened, IsNotOpened, StartsFormatted, IsNotStarted, EndsClosed}
@@ -255,6 +255,7 @@ nothing_as_asked (Some (Run frames sessions numbers true closes)) t = adds_nothi
 nothing_as_asked (Some (Run frames sessions numbers false closes)) t = by_no_mark t t (adds_nothing t t refl)
 nothing_as_asked (Some (Serial sessions)) t = adds_nothing t t refl
 nothing_as_asked (Some Check) t = adds_nothing t t refl
+nothing_as_asked (Some Records) t = adds_nothing t t refl
 nothing_as_asked (Some (Trial seed count frames sessions numbers)) t = adds_nothing t t refl
 
 pub noted_as_asked : (asked : AskedFor) (old mid new : Told) → AddsAsAsked asked old mid
@@ -265,4 +266,5 @@ noted_as_asked (Some (Run frames sessions numbers true closes)) old mid new did 
 noted_as_asked (Some (Run frames sessions numbers false closes)) old mid new did only = by_mark_noted old mid new did only
 noted_as_asked (Some (Serial sessions)) old mid new did only = adds_noted old mid new did only
 noted_as_asked (Some Check) old mid new did only = adds_noted old mid new did only
+noted_as_asked (Some Records) old mid new did only = adds_noted old mid new did only
 noted_as_asked (Some (Trial seed count frames sessions numbers)) old mid new did only = adds_noted old mid new did only

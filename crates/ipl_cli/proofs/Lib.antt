@@ -8,6 +8,7 @@ mod EndLemmas
 mod WornLemmas
 mod EarlierLemmas
 mod StartLemmas
+mod AnewLemmas
 mod TrialLemmas
 mod RecordLemmas
 mod SurviveLemmas
@@ -19,4 +20,6 @@ mod TopLemmas
 mod SayLemmas
 mod ViewLemmas
 mod CheckLemmas
+mod LineLemmas
+mod ListLemmas
 mod LawfulLemmas

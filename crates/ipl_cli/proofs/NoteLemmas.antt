@@ -9,7 +9,7 @@ use Rattle.ipl_model.specs.declared.command.Command.{Command}
 use Rattle.unit_io.specs.Leads.{IsSteady}
 use Rattle.store_trait.specs.Onward.{Further}
 use Rattle.command_line.specs.declared.asked.Request.{Request}
-use Rattle.command_line.specs.declared.asked.Request.TheVariants.{Format, Run, Serial, Check, Trial}
+use Rattle.command_line.specs.declared.asked.Request.TheVariants.{Format, Run, Serial, Check, Trial, Records}
 use Rattle.command_line.specs.declared.end.End.{End}
 use Rattle.command_line.specs.declared.end.End.TheVariants.{Words, Chip, OutOfMemory, Script, Output, TooLong}
 use Rattle.ipl_cli.specs.Ending.{AskedFor, Ending, StopsEarly, IsFormatStopped, IsLeftAlone, but_noted, note_at, status_at}
@@ -18,6 +18,7 @@ use Rattle.ipl_cli.specs.Top.{OpenedCause, FormatCause, FormattedCause, RequestC
 use Rattle.ipl_cli.proofs.ViewLemmas.{serial_left}
 use Rattle.ipl_model.specs.State.{Limits}
 use Rattle.ipl_cli.proofs.CheckLemmas.{checked_cause, check_left}
+use Rattle.ipl_cli.proofs.ListLemmas.{list_left}
 
 module _ (old mid : Told) (noted : Option (List ℕ)) where
   abbrev then : Told
@@ -74,18 +75,21 @@ module _ (old mid : Told) (noted : Option (List ℕ)) where
   request_cause (Run frames sessions numbers false closes) (Chip e) c = opened_cause numbers e c
   request_cause (Serial sessions) (Chip e) c = c
   request_cause Check (Chip e) c = checked_cause old mid noted e c
+  request_cause Records (Chip e) c = checked_cause old mid noted e c
   request_cause (Trial seed count frames sessions numbers) (Chip e) c = formatted_cause e c
   request_cause request OutOfMemory c = c
   request_cause (Format spares) Script c = c
   request_cause (Run frames sessions numbers formats closes) Script c = c
   request_cause (Serial sessions) Script c = c
   request_cause Check Script c = c
+  request_cause Records Script c = c
   request_cause (Trial seed count frames sessions numbers) Script c = c
   request_cause request Output c = c
   request_cause (Format spares) TooLong c = c
   request_cause (Run frames sessions numbers formats closes) TooLong c = record { grew = c.grew; told = c.told }
   request_cause (Serial sessions) TooLong c = record { grew = c.grew; told = c.told }
   request_cause Check TooLong c = c
+  request_cause Records TooLong c = c
   request_cause (Trial seed count frames sessions numbers) TooLong c = c
 
   end_cause : (asked : AskedFor) (ending : Ending) → EndCause asked ending old mid
@@ -283,6 +287,7 @@ module _ (old mid : Told) (noted : Option (List ℕ)) where
   end_left (Some (Run frames sessions numbers false closes)) ending l = opened_left sessions ending l
   end_left (Some (Serial sessions)) ending l = serial_left old mid noted sessions ending l
   end_left (Some Check) ending l = check_left old mid noted ending l
+  end_left (Some Records) ending l = list_left old mid noted ending l
   end_left (Some (Trial seed count frames sessions numbers)) ending l = trial_left sessions seed count ending l
 
 -- all that is to be known of the end

@@ -14,12 +14,13 @@ use Rattle.restart.proofs.LookLemmas.{reads_none}
 use Rattle.script_run.specs.Goes.{ReadsAll}
 use Rattle.script_store.specs.Worn.{WearsOut}
 use Rattle.command_line.specs.declared.asked.Request.{Request}
-use Rattle.command_line.specs.declared.asked.Request.TheVariants.{Format, Run, Serial, Check, Trial}
+use Rattle.command_line.specs.declared.asked.Request.TheVariants.{Format, Run, Serial, Check, Trial, Records}
 use Rattle.command_line.specs.Ends.{status_of, fault_status}
 use Rattle.command_line.specs.declared.end.End.TheVariants.{Words, Chip, OutOfMemory, Script, Output, TooLong}
-use Rattle.ipl_cli.specs.Ending.{AskedFor, AsksOpened, AsksFormatted, AsksAnew, AtStatus, Ending, IsLeftAlone, but_noted, format_end, status_at, units_beside, AsksOpenedBy, AsksOpenedWith, AsksFormattedBy}
+use Rattle.ipl_cli.specs.Ending.{AskedFor, AsksOpened, AsksFormatted, AsksAnew, AsksToLook, AtStatus, Ending, IsLeftAlone, but_noted, format_end, status_at, units_beside, AsksOpenedBy, AsksOpenedWith, AsksFormattedBy}
 use Rattle.ipl_cli.specs.Trials.{TrialLeaves}
 use Rattle.ipl_cli.specs.Checks.{CheckLeaves}
+use Rattle.ipl_cli.specs.Lists.{ListLeaves}
 use Rattle.ipl_cli.specs.Views.{ViewsTold, OnlyViews, OnlyHears, SerialLeaves}
 use Rattle.restart.specs.Looks.{AreTooMany, numbers_in}
 use Rattle.ipl_cli.specs.Top.{HasFault, IsStray, IsLaidWell, LaidCause, UsedUpCause, FindsWorn, WearsAsAsked, StrayCause, OpenedCause, FormatCause, AnewCause, FormattedCause, ChipCause, IsTooLong, EndCause, RunsOpened, RunsFormatted, LaysOut, OnlyLooks, EndsAtFault, FormatLeaves, FormattedLeaves, OpenedLeaves, EndLeaves, Ends, RefusesFaults, StrayCause, SpentCause, LacksUnits, LacksRoom, EndsUnfit, UntouchedOrRuns, IsCalm, Suffices, EndsInTime}
@@ -44,6 +45,7 @@ no_memory (Some (Run frames sessions numbers true closes)) t = refl
 no_memory (Some (Run frames sessions numbers false closes)) t = refl
 no_memory (Some (Serial sessions)) t = untouched_hears t t refl
 no_memory (Some Check) t = refl
+no_memory (Some Records) t = refl
 no_memory (Some (Trial seed count frames sessions numbers)) t = refl
 
 abbrev failed : FormatFault → Result (Unit {0}) FormatFault
@@ -460,6 +462,9 @@ module _ (asked : AskedFor) (old new : Told) (status : ℕ) (e : Ends asked old 
   pub end_checks : asked ≡ Some Check → AtStatus (λ ending. CheckLeaves ending old new) status
   end_checks is = (e.ending, e.status_is, leaves_of Check is)
 
+  pub end_lists : asked ≡ Some Records → AtStatus (λ ending. ListLeaves ending old new) status
+  end_lists is = (e.ending, e.status_is, leaves_of Records is)
+
   pub end_views : (sessions : ℕ) → asked ≡ Some (Serial sessions) → ViewsTold sessions old new (status == 0)
   end_views sessions is = subst (λ (n : ℕ). ViewsTold sessions old new (n == 0)) (sym e.status_is) (views_by old new
       e.ending (leaves_of (Serial sessions) is))
@@ -503,6 +508,7 @@ module _ (old new : Told) where
       (Some (Trial seed count frames sessions numbers)) l
   wanting_by (Some (Serial sessions)) (Err OutOfMemory) c l is = (l, λ apart. absurd (apart sessions refl))
   wanting_by (Some Check) (Err OutOfMemory) c l is = wanting_untouched (Some Check) l
+  wanting_by (Some Records) (Err OutOfMemory) c l is = wanting_untouched (Some Records) l
   wanting_by (Some request) (Err Script) c l is = absurd (omega (arith, is))
   wanting_by (Some request) (Err Output) c l is = absurd (omega (arith, is))
   wanting_by (Some request) (Err TooLong) c l is = absurd (omega (arith, is))
@@ -551,6 +557,7 @@ module _ (old new : Told) where
       l.other (outside (Run frames sessions numbers false closes) (λ spares same. cc) misfit)
   chip_other (Serial sessions) e c l is misfit = l
   chip_other Check e c l is misfit = l.other (outside Check (λ spares same. cc) misfit)
+  chip_other Records e c l is misfit = l.other (outside Records (λ spares same. cc) misfit)
   chip_other (Trial seed count frames sessions numbers) e c l is misfit = trial_other seed count e l
       (outside (Trial seed count frames sessions numbers) (λ spares same. cc) misfit)
 
@@ -593,6 +600,7 @@ module _ (old new : Told) where
   chip_by (Trial seed count frames sessions numbers) e c is = formatted_chip old new e c is
   chip_by (Serial sessions) e c is = absurd (omega (arith, is, ap fault_status c.0))
   chip_by Check e c is = inl (checked_chip old new e c is)
+  chip_by Records e c is = inl (checked_chip old new e c is)
 
   worn_by : (request : Request) (e : ImageFault) → ChipCause request e old new → fault_status e ≡ 10
       → Rose old.worn_erases new.worn_erases × WearsAsAsked (Some request) old new
@@ -602,11 +610,12 @@ module _ (old new : Told) where
   worn_by (Trial seed count frames sessions numbers) e c is = formatted_worn old new e c is
   worn_by (Serial sessions) e c is = absurd (omega (arith, is, ap fault_status c.0))
   worn_by Check e c is = absurd (checked_worn old new e c is)
+  worn_by Records e c is = absurd (checked_worn old new e c is)
 
   abbrev Imaged : AskedFor → Type 0
   Imaged asked = (¬ IsGeometry old.places) ⊎ LacksUnits asked old
       ⊎ (AsksOpened asked × StrayCause old) ⊎ (AsksAnew asked × AnewCause old)
-      ⊎ LacksRoom asked old ⊎ ((asked ≡ Some Check) × IsStray old)
+      ⊎ LacksRoom asked old ⊎ (AsksToLook asked × IsStray old)
 
   image_by : (request : Request) (e : ImageFault) → ChipCause request e old new → fault_status e ≡ 4
       → Imaged (Some request)
@@ -625,7 +634,8 @@ module _ (old new : Told) where
     | inr many ↦ inr (inr (inr (inr (inl (numbers, (frames, sessions, closes, refl), many)))))
   ]
   image_by (Serial sessions) e c is = inl c.1
-  image_by Check e c is = inr (inr (inr (inr (inr (refl, checked_stray old new e c is)))))
+  image_by Check e c is = inr (inr (inr (inr (inr (inl refl, checked_stray old new e c is)))))
+  image_by Records e c is = inr (inr (inr (inr (inr (inr refl, checked_stray old new e c is)))))
 
   abbrev Spends : AskedFor → Type 0
   Spends asked = (AsksOpened asked × SpentCause old) ⊎ (AsksAnew asked × AnewCause old)
@@ -642,6 +652,7 @@ module _ (old new : Told) where
   spent_by (Run frames sessions numbers false closes) e c is = inl ((sessions, (frames, numbers, closes, refl)), opened_spent old new numbers e c is)
   spent_by (Serial sessions) e c is = absurd (omega (arith, is, ap fault_status c.0))
   spent_by Check e c is = absurd (checked_spent old new e c is)
+  spent_by Records e c is = absurd (checked_spent old new e c is)
 
   -- a status of a fault of the chip comes with one
   fault_by : (n : ℕ) → n ≢ 0 → n ≢ 2 → n ≢ 5 → n ≢ 6 → n ≢ 7 → n ≢ 8
@@ -668,6 +679,7 @@ module _ (old new : Told) where
   script_by (Some (Run frames sessions numbers formats closes)) (Err Script) c is = c
   script_by (Some (Serial sessions)) (Err Script) c is = c
   script_by (Some Check) (Err Script) c is = absurd c
+  script_by (Some Records) (Err Script) c is = absurd c
   script_by (Some (Trial seed count frames sessions numbers)) (Err Script) c is = absurd c
   script_by (Some request) (Err Output) c is = absurd (omega (arith, is))
   script_by (Some request) (Err TooLong) c is = absurd (omega (arith, is))
@@ -696,6 +708,7 @@ module _ (old new : Told) where
   long_by (Some (Run frames sessions numbers formats closes)) (Err TooLong) c is = c
   long_by (Some (Serial sessions)) (Err TooLong) c is = c
   long_by (Some Check) (Err TooLong) c is = absurd c
+  long_by (Some Records) (Err TooLong) c is = absurd c
   long_by (Some (Trial seed count frames sessions numbers)) (Err TooLong) c is = absurd c
 
 -- ---- as it was asked

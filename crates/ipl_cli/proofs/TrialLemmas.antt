@@ -52,7 +52,8 @@ use Rattle.ipl_cli.specs.Trials.{commands_on, state_after, summary, ChipStandsBe
 use Rattle.ipl_cli.specs.Runs.{MakesStore, StartsOpened, IsNotOpened, WasFormatted, StartsFormatted, IsNotStarted, TriesOver, ending_of, slots_of}
 use Rattle.ipl_cli.proofs.EndLemmas.{opened_unused, Kept, kept, pieces_behind, history_behind, all_done, left_counts, units_told, opened_keeps, opened_each, took_marked, fresh_story, fresh_units, told_format, lawful_format}
 use Rattle.script_run.proofs.CompleteLemmas.{completes_more}
-use Rattle.ipl_cli.proofs.StartLemmas.{cause_anew, over_cause, not_started_cause, stopped_end}
+use Rattle.ipl_cli.proofs.StartLemmas.{over_cause}
+use Rattle.ipl_cli.proofs.AnewLemmas.{cause_anew, not_started_cause, stopped_end}
 
 -- ---- what the chip stands for
 

@@ -6,7 +6,7 @@ use Rattle.chip_trait.specs.Story.{Story}
 use Rattle.chip_trait.specs.Told.{Told, adds_all}
 use Rattle.ipl_meaning.specs.Marks.{IsMarked}
 use Rattle.unit_io.specs.Reads.{OfContents}
-use Rattle.command_line.specs.declared.asked.Request.TheVariants.{Format, Run, Serial, Check, Trial}
+use Rattle.command_line.specs.declared.asked.Request.TheVariants.{Format, Run, Serial, Check, Trial, Records}
 use Rattle.ipl_cli.specs.Ending.{AskedFor}
 
 -- Whatever the chip tells and whatever it holds: what was added is lawful after any lawful events, so
@@ -33,4 +33,5 @@ AddsAsAsked (Some (Run frames sessions numbers true closes)) old new = AddsLawfu
 AddsAsAsked (Some (Run frames sessions numbers false closes)) old new = AddsLawfulByMark old new
 AddsAsAsked (Some (Serial sessions)) old new = AddsLawful old new
 AddsAsAsked (Some Check) old new = AddsLawful old new
+AddsAsAsked (Some Records) old new = AddsLawful old new
 AddsAsAsked (Some (Trial seed count frames sessions numbers)) old new = AddsLawful old new

@@ -8,7 +8,7 @@ use Rattle.ipl_base.specs.declared.fault.FormatFault.TheVariants as format
 use Rattle.ipl_base.specs.declared.fault.ImageFault.TheVariants as image
 use Rattle.restart.specs.Fresh.{Formats}
 use Rattle.command_line.specs.declared.asked.Request.{Request}
-use Rattle.command_line.specs.declared.asked.Request.TheVariants.{Run, Trial}
+use Rattle.command_line.specs.declared.asked.Request.TheVariants.{Run, Check, Trial, Records}
 use Rattle.command_line.specs.Ends.{status_of, note_of}
 use Rattle.command_line.specs.declared.end.End.{End}
 use Rattle.command_line.specs.declared.end.End.TheVariants.{Chip}
@@ -45,6 +45,10 @@ abbrev pub AsksAnew : AskedFor → Type 0
 AsksAnew asked = AsksFormatted asked
     ⊎ ((seed : ℕ) × (count : ℕ) × (frames : ℕ) × (sessions : ℕ) × (numbers : ℕ)
     × (asked ≡ Some (Trial seed count frames sessions numbers)))
+
+-- they ask for a check of the chip, or for a listing
+abbrev pub AsksToLook : AskedFor → Type 0
+AsksToLook asked = (asked ≡ Some Check) ⊎ (asked ≡ Some Records)
 
 -- how the program ends: what was asked was done to its end, or it ends before
 abbrev pub Ending : Type 0

@@ -5,7 +5,7 @@ use Rattle.std.specs.Option.{option_map}
 use Rattle.chip_trait.specs.Lawful.{IsLawfulAfter, LeavesClean}
 use Rattle.chip_trait.specs.Story.{Story, held}
 use Rattle.chip_trait.specs.Told.{History, Told, adds_all}
-use Rattle.command_line.specs.declared.asked.Request.TheVariants.{Format, Run, Serial, Check, Trial}
+use Rattle.command_line.specs.declared.asked.Request.TheVariants.{Format, Run, Serial, Check, Trial, Records}
 use Rattle.ipl_model.specs.Grammar.{commands_of}
 use Rattle.ipl_meaning.specs.Legible.{Legible, IsToldApart}
 use Rattle.ipl_meaning.specs.Marks.{IsMarked}
@@ -45,6 +45,7 @@ DoesAsAsked (Some (Run frames sessions numbers false closes)) old new =
     DoesWith (StartsOpened true) (RunsAsAsked closes) frames sessions numbers old new
 DoesAsAsked (Some (Serial sessions)) old new = Unit {0}
 DoesAsAsked (Some Check) old new = Unit {0}
+DoesAsAsked (Some Records) old new = Unit {0}
 DoesAsAsked (Some (Trial seed count frames sessions numbers)) old new =
     DoesWith StartsFormatted (TriesOver seed count (Ok tt)) frames sessions numbers old new
 
@@ -82,4 +83,5 @@ ClosesAsAsked (Some (Run frames sessions numbers true closes)) old new = closes 
 ClosesAsAsked (Some (Run frames sessions numbers false closes)) old new = closes ≡ true → ClosesOpened old new
 ClosesAsAsked (Some (Serial sessions)) old new = Unit {0}
 ClosesAsAsked (Some Check) old new = Unit {0}
+ClosesAsAsked (Some Records) old new = Unit {0}
 ClosesAsAsked (Some (Trial seed count frames sessions numbers)) old new = Unit {0}

@@ -3,6 +3,7 @@ pub mod Adds
 pub mod Ending
 pub mod Views
 pub mod Checks
+pub mod Lists
 pub mod Trials
 pub mod Top
 pub mod Survives

@@ -36,14 +36,15 @@ use Rattle.script_store.specs.Worn.{WearsOut}
 use Rattle.script_run.specs.Run.{SaysLines, EndsBetween, EndsUnsaid}
 use Rattle.script_run.specs.Goes.{ReadsAll}
 use Rattle.command_line.specs.declared.asked.Request.{Request}
-use Rattle.command_line.specs.declared.asked.Request.TheVariants.{Format, Run, Serial, Check, Trial}
+use Rattle.command_line.specs.declared.asked.Request.TheVariants.{Format, Run, Serial, Check, Trial, Records}
 use Rattle.command_line.specs.declared.end.End.{End}
 use Rattle.command_line.specs.declared.end.End.TheVariants.{Words, Chip, OutOfMemory, Script, Output, TooLong}
 use Rattle.command_line.specs.Ends.{fault_status}
-use Rattle.ipl_cli.specs.Ending.{AskedFor, AsksOpened, AsksOpenedWith, AsksAnew, Ending, StopsEarly, IsFormatStopped, IsLeftAlone, but_noted, note_at, status_at, units_beside}
+use Rattle.ipl_cli.specs.Ending.{AskedFor, AsksOpened, AsksOpenedWith, AsksAnew, AsksToLook, Ending, StopsEarly, IsFormatStopped, IsLeftAlone, but_noted, note_at, status_at, units_beside}
 use Rattle.ipl_cli.specs.Trials.{TrialLeaves}
 use Rattle.ipl_cli.specs.Views.{ViewedCause, SerialLeaves}
 use Rattle.ipl_cli.specs.Checks.{CheckedCause, CheckLeaves}
+use Rattle.ipl_cli.specs.Lists.{ListLeaves}
 
 -- ---- what the chip holds
 
@@ -88,11 +89,11 @@ abbrev pub LacksRoom : AskedFor → Told → Type 0
 LacksRoom asked old =
     (numbers : ℕ) × AsksOpenedWith numbers asked × AreTooMany numbers (numbers_in old.places) old
 
--- what a chip of 5 to 1,028 places held that a run ended at with 4 or 9, or a check; or a run had room for
+-- what a chip of 5 to 1,028 places held that a run ended at with 4 or 9, or a check or a listing; or a run had room for
 -- fewer numbers; or a format left no unit
 abbrev pub EndsUnfit : AskedFor → Told → Type 0
 EndsUnfit asked old = (AsksOpened asked × IsUnfit old) ⊎ (AsksAnew asked × IsSilent old)
-    ⊎ LacksUnits asked old ⊎ LacksRoom asked old ⊎ ((asked ≡ Some Check) × IsStray old)
+    ⊎ LacksUnits asked old ⊎ LacksRoom asked old ⊎ (AsksToLook asked × IsStray old)
 
 -- No write has failed; a history that leaves what the chip holds rests on records; and no number
 -- that is found is 2^62 or more.
@@ -229,6 +230,7 @@ ChipCause (Run frames sessions numbers false closes) e old new = OpenedCause num
 ChipCause (Trial seed count frames sessions numbers) e old new = FormattedCause e old new
 ChipCause (Serial sessions) e old new = ViewedCause e old new
 ChipCause Check e old new = CheckedCause e old new
+ChipCause Records e old new = CheckedCause e old new
 
 -- so many bytes of the script were read; where the script is told it has so many
 pub record IsTooLong (old new : Told) : Type 0 where
@@ -245,12 +247,14 @@ RequestCause (Run frames sessions numbers formats closes) Script old new =
     Rose old.beside.script_faults new.beside.script_faults
 RequestCause (Serial sessions) Script old new = Rose old.beside.script_faults new.beside.script_faults
 RequestCause Check Script old new = ⊥
+RequestCause Records Script old new = ⊥
 RequestCause (Trial seed count frames sessions numbers) Script old new = ⊥
 RequestCause request Output old new = Rose old.beside.say_faults new.beside.say_faults
 RequestCause (Format spares) TooLong old new = ⊥
 RequestCause (Run frames sessions numbers formats closes) TooLong old new = IsTooLong old new
 RequestCause (Serial sessions) TooLong old new = IsTooLong old new
 RequestCause Check TooLong old new = ⊥
+RequestCause Records TooLong old new = ⊥
 RequestCause (Trial seed count frames sessions numbers) TooLong old new = ⊥
 
 -- when the program ends so
@@ -272,6 +276,7 @@ WearsAsAsked (Some (Run frames sessions numbers true closes)) old new = FindsWor
 WearsAsAsked (Some (Run frames sessions numbers false closes)) old new = WearsOut old new
 WearsAsAsked (Some (Serial sessions)) old new = ⊥
 WearsAsAsked (Some Check) old new = ⊥
+WearsAsAsked (Some Records) old new = ⊥
 WearsAsAsked (Some (Trial seed count frames sessions numbers)) old new = FindsWorn old new
 
 -- ---- the headline
@@ -535,6 +540,7 @@ EndLeaves (Some (Run frames sessions numbers true closes)) ending old new = Form
 EndLeaves (Some (Run frames sessions numbers false closes)) ending old new = OpenedLeaves sessions ending old new
 EndLeaves (Some (Serial sessions)) ending old new = SerialLeaves sessions ending old new
 EndLeaves (Some Check) ending old new = CheckLeaves ending old new
+EndLeaves (Some Records) ending old new = ListLeaves ending old new
 EndLeaves (Some (Trial seed count frames sessions numbers)) ending old new = TrialLeaves sessions seed count ending old new
 
 -- How the program ends: with its status and its line, which is noted alone; for a cause; and what it
@@ -608,6 +614,7 @@ Suffices (Run frames sessions numbers true closes) old = IsTold old
 Suffices (Run frames sessions numbers false closes) old = RestsWithNumbersLeft old × HasRoomFor numbers old
 Suffices (Serial sessions) old = IsGeometry old.places
 Suffices Check old = (m : Map) × HoldsRecords old.places (whole m) old
+Suffices Records old = (m : Map) × HoldsRecords old.places (whole m) old
 Suffices (Trial seed count frames sessions numbers) old = IsTold old
 
 -- the script ends in time: by the count of its bytes, or as it is told

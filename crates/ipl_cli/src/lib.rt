@@ -69,6 +69,7 @@
 mod chains;
 mod checking;
 mod failing;
+mod listing;
 mod mem_desk;
 mod real_desk;
 pub mod top;

@@ -12,11 +12,12 @@ ghost use Rattle.ipl_store.specs.Calls.{numbers_of, IsSound};
 ghost use Rattle.command_line.specs.Asked.{IsInBounds};
 ghost use Rattle.command_line.specs.Choice.{requested};
 ghost use Rattle.command_line.specs.declared.asked.Request.{Request};
-ghost use Rattle.command_line.specs.declared.asked.Request.TheVariants.{Format, Run, Serial, Check, Trial};
+ghost use Rattle.command_line.specs.declared.asked.Request.TheVariants.{Format, Run, Serial, Check, Trial, Records};
 ghost use Rattle.ipl_cli.specs.Trials.{TrialLeaves};
 ghost use Rattle.ipl_cli.specs.Adds.{AddsLawful, AddsLawfulByMark, AddsAsAsked};
-ghost use Rattle.ipl_cli.specs.Ending.{AsksOpened, AsksOpenedBy, AsksOpenedWith, AsksFormatted, AsksFormattedBy, AsksAnew, AtStatus, status_at, note_at, but_noted, format_end, IsLeftAlone};
+ghost use Rattle.ipl_cli.specs.Ending.{AsksOpened, AsksOpenedBy, AsksOpenedWith, AsksFormatted, AsksFormattedBy, AsksAnew, AsksToLook, AtStatus, status_at, note_at, but_noted, format_end, IsLeftAlone};
 ghost use Rattle.ipl_cli.specs.Checks.{CheckLeaves};
+ghost use Rattle.ipl_cli.specs.Lists.{ListLeaves};
 ghost use Rattle.ipl_cli.specs.Views.{ViewsTold, OnlyViews, OnlyHears, SerialLeaves, view_end};
 ghost use Rattle.ipl_cli.specs.Top.{NoneFalls, EndCause, RequestCause, FormatLeaves, FormattedLeaves, OpenedLeaves, EndLeaves};
 ghost use Rattle.ipl_cli.specs.Top.{RunsOpened, RunsFormatted, UntouchedOrRuns, RefusesFaults, IsLaidWell, LaysOut};
@@ -27,6 +28,7 @@ ghost use Rattle.ipl_cli.specs.Frames.{DoesWith, DoesAsAsked, ClosesOpened, Clos
 ghost use Rattle.ipl_cli.specs.Runs.{slots_of, room_of, StartsFormatted, StartsOpened, MakesStore, FormatsFirst, OpensOver, IsNotStarted, ClosesBehind, EndsClosed, ClosesScript, RunsClosing, RunsOver, RunsAsAsked, TriesOver, end_of};
 
 use crate::checking::check_chip;
+use crate::listing::list_chip;
 use chip_trait::Desk;
 use command_line::{End, NoteLine, Request, request, status};
 use ipl_base::{ChipFault, FormatFault, Geometry, ImageFault, MOST_UNITS};
@@ -387,6 +389,7 @@ fn run_request<D: Desk>(alloc: Global, request: Request, desk: &mut D) -> Result
         } => run_opened(alloc, frames, sessions, numbers, close, desk),
         Request::Serial { sessions } => say_view(alloc, sessions, desk),
         Request::Check => check_chip(alloc, desk),
+        Request::Records => list_chip(alloc, desk),
         Request::Trial {
             seed,
             count,
@@ -518,6 +521,11 @@ pub fn top<D: Desk>(alloc: Global, words: &[String], desk: &mut D) -> u8
     ensures checks { requested (map string_bytes words.now) ≡ Some Check
         → AtStatus (λ ending. CheckLeaves ending (D.told desk.old) (D.told desk.new)) result }
 
+    // A listing only reads. It says a line for each record of the pages that read, and behind them that these are all. At 0
+    // nothing is wrong with the chip; at 4 its first fault is the one that is noted, as of a check.
+    ensures lists { requested (map string_bytes words.now) ≡ Some Records
+        → AtStatus (λ ending. ListLeaves ending (D.told desk.old) (D.told desk.new)) result }
+
     // A view is said at 0, and a part of it wherever else the program ends; by the history that the desk
     // tells no sector is touched.
     ensures views { (sessions : ℕ) → requested (map string_bytes words.now) ≡ Some (Serial sessions)
@@ -547,7 +555,7 @@ pub fn top<D: Desk>(alloc: Global, words: &[String], desk: &mut D) -> u8
         ⊎ (AsksOpened (requested (map string_bytes words.now)) × StrayCause (D.told desk.old))
         ⊎ (AsksAnew (requested (map string_bytes words.now)) × AnewCause (D.told desk.old))
         ⊎ LacksRoom (requested (map string_bytes words.now)) (D.told desk.old)
-        ⊎ ((requested (map string_bytes words.now) ≡ Some Check) × IsStray (D.told desk.old)) }
+        ⊎ (AsksToLook (requested (map string_bytes words.now)) × IsStray (D.told desk.old)) }
     // So over a chip of 5 to 1,028 places that tells what it holds: at 4 and 9 that stood for no records, or
     // a number of 2^62 or more was among it, or more numbers were committed there than have room, or a format
     // was to spare so many that no unit is left; and never where it was formatted first.

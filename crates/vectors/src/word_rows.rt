@@ -36,6 +36,7 @@ fn request_text(alloc: Global, request: Request) -> Result<String> {
         Request::Format { spares } => Ok(format!(in alloc; "format spares {spares}")?),
         Request::Serial { sessions } => Ok(format!(in alloc; "serial sessions {sessions}")?),
         Request::Check => text_of(alloc, "check"),
+        Request::Records => text_of(alloc, "list"),
         Request::Run {
             frames,
             sessions,

@@ -25,5 +25,7 @@ returns c =
     ∙ ap₂ with_subcommand second (ap top c.in_ok-serial_part.ensures.app) in
     let fourth = c.in_ok-subcommand-4.ensures.shape c.in_ok-trial_part.ensures.local
     ∙ ap₂ with_subcommand third (ap top c.in_ok-trial_part.ensures.app) in
-    IfOk-weaker c.subcommand-5.result _ _ (λ r h. h.shape c.in_ok-check_part.ensures.local
-    ∙ ap₂ with_subcommand fourth (ap top c.in_ok-check_part.ensures.app)) c.subcommand-5.ensures
+    let fifth = c.in_ok-subcommand-5.ensures.shape c.in_ok-check_part.ensures.local
+    ∙ ap₂ with_subcommand fourth (ap top c.in_ok-check_part.ensures.app) in
+    IfOk-weaker c.subcommand-6.result _ _ (λ r h. h.shape c.in_ok-list_part.ensures.local
+    ∙ ap₂ with_subcommand fifth (ap top c.in_ok-list_part.ensures.app)) c.subcommand-6.ensures

@@ -1,4 +1,4 @@
-use Rattle.ipl_cli.proofs.StartLemmas.{was_formatted, not_formatted}
+use Rattle.ipl_cli.proofs.AnewLemmas.{was_formatted, not_formatted}
 use Rattle.ipl_cli.proofs.top.format_first.Goals as goal
 
 pub returns-in-Ok : goal.returns-in-Ok

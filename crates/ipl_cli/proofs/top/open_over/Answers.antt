@@ -2,7 +2,7 @@ use Rattle.std.proofs.Common.{length, refl, ◌∙◌, ap}
 use Rattle.page_frames.specs.Pages.{tables_in}
 use Rattle.ipl_store.specs.Calls.{numbers_of}
 use Rattle.ipl_store.specs.declared.store.Store.{Store}
-use Rattle.ipl_cli.proofs.StartLemmas.{starts_over}
+use Rattle.ipl_cli.proofs.AnewLemmas.{starts_over}
 use Rattle.ipl_cli.proofs.top.open_over.Goals as goal
 
 pub returns-in-Ok : goal.returns-in-Ok

@@ -1,7 +1,7 @@
 use Rattle.std.proofs.Common.{ℕ, Err, Ok, refl, subst}
 use Rattle.std.proofs.lemmas.Result.{err_from_is_err_and}
 use Rattle.store_trait.proofs.OnwardLemmas.{onward_counts, further_onward, further_then}
-use Rattle.ipl_cli.proofs.StartLemmas.{not_started_left, not_started_cause, formatted_left, formatted_cause, formatted_running, formatted_number}
+use Rattle.ipl_cli.proofs.AnewLemmas.{not_started_left, not_started_cause, formatted_left, formatted_cause, formatted_running, formatted_number}
 use Rattle.std.specs.Prelude.{is_ok}
 use Rattle.ipl_cli.proofs.LawfulLemmas.{formatted_adds, unstarted_adds, formatted_closed}
 use Rattle.ipl_cli.specs.Top.{FormattedLeaves}

@@ -2,7 +2,7 @@ use Rattle.std.proofs.Common.{ℕ, map, subst}
 use Rattle.std.specs.String.{string_bytes}
 use Rattle.command_line.specs.Choice.{requested}
 use Rattle.ipl_cli.proofs.NoteLemmas.{ends, none_falls}
-use Rattle.ipl_cli.proofs.TopLemmas.{end_opened, end_refuses, end_laid, end_read, end_formatted, end_part, end_stops, end_formats, end_trials, end_checks, end_views, end_only_views, end_early, end_wanting, end_other, end_words, end_chip, end_worn, end_worn_out, end_image, end_unfit, end_script, end_output, end_long, end_spent, end_invalid, end_completes}
+use Rattle.ipl_cli.proofs.TopLemmas.{end_opened, end_refuses, end_laid, end_read, end_formatted, end_part, end_stops, end_formats, end_trials, end_checks, end_lists, end_views, end_only_views, end_early, end_wanting, end_other, end_words, end_chip, end_worn, end_worn_out, end_image, end_unfit, end_script, end_output, end_long, end_spent, end_invalid, end_completes}
 use Rattle.ipl_cli.specs.Ending.{AtStatus}
 use Rattle.ipl_cli.specs.Top.{RunsOpened}
 use Rattle.ipl_cli.proofs.RecordLemmas.{opened_records, formatted_records}
@@ -93,6 +93,11 @@ returns-clause-trials g c = end_trials (requested (map string_bytes c.args.words
 
 pub returns-clause-checks : goal.returns-clause-checks
 returns-clause-checks g c = end_checks (requested (map string_bytes c.args.words.now))
+    (g.D.Chip.told c.args.desk.now) (g.D.Chip.told c.finish.new.desk) c.finish.result
+    (returns-clause-ends g c)
+
+pub returns-clause-lists : goal.returns-clause-lists
+returns-clause-lists g c = end_lists (requested (map string_bytes c.args.words.now))
     (g.D.Chip.told c.args.desk.now) (g.D.Chip.told c.finish.new.desk) c.finish.result
     (returns-clause-ends g c)
 

@@ -1,7 +1,7 @@
 use Rattle.std.proofs.Common.{ℕ, Err, Ok, refl, subst}
 use Rattle.std.proofs.lemmas.Result.{err_from_is_err_and}
 use Rattle.store_trait.proofs.OnwardLemmas.{onward_counts, onward_then, further_onward}
-use Rattle.ipl_cli.proofs.StartLemmas.{formatted_running, formatted_number}
+use Rattle.ipl_cli.proofs.AnewLemmas.{formatted_running, formatted_number}
 use Rattle.ipl_cli.proofs.TrialLemmas.{trial_not_started, trial_not_started_cause, tried_left, tried_cause}
 use Rattle.std.specs.Prelude.{is_ok}
 use Rattle.ipl_cli.proofs.LawfulLemmas.{formatted_adds, unstarted_adds}
