@@ -34,7 +34,7 @@ chmod 644 chip
 
 # A byte of a base sector of page 0 is changed: the other pages are listed all the same.
 echo 'merge 0' | ends 0 "" run file:5:chip
-place=$("$here/../../tools/chip_map" chip | sed -n 's/^place \([0-9]*\).*unit 0.*/\1/p' | tail -n 1)
+place=$("$here/../../tools/chip_map" --text chip | sed -n 's/^place \([0-9]*\): data of unit 0, .* current$/\1/p')
 printf j | dd of=chip bs=1 seek=$((place * 131072 + 548)) conv=notrunc 2>/dev/null
 printf '64 -\n959 00\nend\n' >wanted
 cp chip before
